@@ -1,0 +1,47 @@
+-- Document 01, "Why a frame is turned down": the number and the word of each row.
+use Prim.Native.Nat.{ℕ, _-_}
+use Prim.Native.String.{String}
+use mathlib.Core.List.{List, [], _∷_, _++_}
+use lib.ListN.{length, replicate}
+use Rattle.refusal.specs.Letters.{letters}
+use Rattle.refusal.specs.declared.Refusal.{Refusal}
+use Rattle.refusal.specs.declared.Refusal.the-variants.{Nothing, Rate, Size, History, RunFull, Signal, Gain, Lag, Taps, Line, Pulses, Speaker, Length, Order}
+use Rattle.refusal.specs.declared.Text.{Text}
+
+-- the column "No."; 0 where nothing is refused
+abbrev pub refusalNumber : Refusal → ℕ
+refusalNumber Nothing = 0
+refusalNumber Rate = 1
+refusalNumber Size = 2
+refusalNumber History = 3
+refusalNumber RunFull = 4
+refusalNumber Signal = 5
+refusalNumber Gain = 6
+refusalNumber Lag = 7
+refusalNumber Taps = 8
+refusalNumber Line = 9
+refusalNumber Pulses = 10
+refusalNumber Speaker = 11
+refusalNumber Length = 12
+refusalNumber Order = 13
+
+-- the column "Word"; empty where nothing is refused
+abbrev pub refusalWord : Refusal → String
+refusalWord Nothing = ""
+refusalWord Rate = "rate"
+refusalWord Size = "size"
+refusalWord History = "history"
+refusalWord RunFull = "run full"
+refusalWord Signal = "signal"
+refusalWord Gain = "gain"
+refusalWord Lag = "lag"
+refusalWord Taps = "taps"
+refusalWord Line = "line"
+refusalWord Pulses = "pulses"
+refusalWord Speaker = "speaker"
+refusalWord Length = "length"
+refusalWord Order = "order"
+
+-- a text as the code has it: its letters, zeros up to eight places, and how many letters it has
+abbrev pub textOf : String → Text
+textOf s = record { letters = letters s ++ replicate (8 - length (letters s)) 0; len = length (letters s) }

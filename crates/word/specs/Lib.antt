@@ -1,0 +1,4 @@
+-- The definitions that the contracts cite.
+pub mod Int
+pub mod Size
+pub mod Row
