@@ -1,0 +1,19 @@
+#!/bin/sh
+# compare/build.sh SOURCES [--self]: builds the comparison under target/compare, with the library's functions that there are.
+# SOURCES is the folder that holds silk/. With --self the reference stands in the library's place.
+set -eu
+[ $# -ge 1 ] || { sed -n '2,3s/^# //p' "$0" >&2; exit 2; }
+SILK_SOURCES=$(cd "$1" && pwd)
+top=$(cd "$(dirname "$0")/.." && pwd)
+target=$top/target/compare
+unset POST_LIBRARY
+if [ "${2:-}" = --self ]; then
+    target=$target/self
+elif grep -q '^post:' "$top/crates.txt"; then
+    (cd "$top" && rt staticlib post) >&2
+    POST_LIBRARY=$top/target/staticlib/libpost.a
+    export POST_LIBRARY
+fi
+export SILK_SOURCES
+cargo build --quiet --release --jobs 1 --manifest-path "$top/compare/Cargo.toml" --target-dir "$target" >&2
+echo "$target/release/compare"

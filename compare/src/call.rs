@@ -1,0 +1,239 @@
+//! One call of a function: its numbers and the slices that it is lent.
+
+use crate::reference::{self, control_fields, half_fields, word_fields};
+use given::silk::decoder_structs::{SilkDecoderControl, SilkDecoderState};
+use std::fmt::Write;
+
+#[derive(Clone, Copy, PartialEq, Eq, Debug)]
+pub enum What {
+    SetUp,
+    Received,
+    Lost,
+    Core,
+    PlcReceived,
+    PlcLost,
+    Glue,
+    Noise,
+    Played,
+    Stability,
+    Filter,
+}
+
+impl What {
+    /// Each function, its name without `post_`, and whether the library has it.
+    pub const ALL: [(What, &'static str, bool); 11] = [
+        (What::Stability, "stability", cfg!(has_stability)),
+        (What::Filter, "filter", cfg!(has_filter)),
+        (What::Core, "core", cfg!(has_core)),
+        (What::PlcReceived, "plc_received", cfg!(has_plc_received)),
+        (What::PlcLost, "plc_lost", cfg!(has_plc_lost)),
+        (What::Glue, "glue", cfg!(has_glue)),
+        (What::Noise, "noise", cfg!(has_noise)),
+        (What::SetUp, "set_up", cfg!(has_set_up)),
+        (What::Played, "played", cfg!(has_played)),
+        (What::Received, "received", cfg!(has_received)),
+        (What::Lost, "lost", cfg!(has_lost)),
+    ];
+
+    pub fn name(self) -> &'static str {
+        What::ALL.iter().find(|(what, ..)| *what == self).unwrap().1
+    }
+
+    pub fn linked(self) -> bool {
+        What::ALL.iter().find(|(what, ..)| *what == self).unwrap().2
+    }
+}
+
+/// A call in the Rust's own types, from which its slices are made.
+#[derive(Clone)]
+pub struct Draft {
+    pub what: What,
+    pub rate: i32,
+    pub subframes: i32,
+    /// With the frame's signal type, offset type, interpolation and seed in its `indices`.
+    pub dec: SilkDecoderState,
+    pub control: SilkDecoderControl,
+    pub lines: [i16; 16],
+    pub pulses: Vec<i16>,
+    /// The output, or the buffer of gluing or noise.
+    pub output: Vec<i16>,
+    pub coefficients: Vec<i16>,
+    /// The buffer's played length, or the filter's order.
+    pub length: usize,
+}
+
+impl Draft {
+    /// A simple call that is accepted: all is 0 but for what a range asks.
+    pub fn plain(what: What, rate: i32, subframes: i32) -> Draft {
+        let frame = (5 * rate * subframes) as usize;
+        let control = SilkDecoderControl { pitch_l: [2 * rate; 4], gains_q16: [81_920; 4], ..Default::default() };
+        let filter = matches!(what, What::Stability | What::Filter);
+        Draft {
+            what,
+            rate,
+            subframes,
+            dec: reference::set_up(rate, subframes),
+            control,
+            lines: [0; 16],
+            pulses: vec![0; frame],
+            output: vec![0; frame],
+            coefficients: vec![0; 16],
+            length: if filter { 16 } else { frame },
+        }
+    }
+
+    /// The call's numbers and the slices that its function takes.
+    pub fn call(mut self) -> Call {
+        use What::*;
+        let what = self.what;
+        let takes = |all: &[What]| all.contains(&what);
+        let (state, control) = (!takes(&[Played, Stability, Filter]), takes(&[Received, Lost, Core, PlcReceived, PlcLost, Noise]));
+        let indices = self.dec.indices;
+        let mut call = Call {
+            what,
+            rate: self.rate,
+            subframes: self.subframes,
+            signal: indices.signal_type,
+            offset: indices.quant_offset_type,
+            interpolation: indices.nlsf_interp_coef_q2,
+            seed: indices.seed,
+            length: self.length,
+            words: vec![0; if state { reference::WORDS } else { 0 }],
+            halves: vec![0; if state { reference::HALVES } else { 0 }],
+            control: vec![0; if control { reference::CONTROL } else { 0 }],
+            taps: vec![0; if control { reference::TAPS } else { 0 }],
+            rows: if takes(&[Received, Core, PlcReceived]) { self.control.pred_coef_q12.concat() } else { vec![] },
+            lines: if takes(&[Received, Filter]) { self.lines.to_vec() } else { vec![] },
+            pulses: if takes(&[Received, Core]) { self.pulses } else { vec![] },
+            output: if takes(&[Received, Lost, Core, PlcLost, Glue, Noise, Played]) { self.output } else { vec![] },
+            coefficients: if takes(&[Stability, Filter]) { self.coefficients } else { vec![] },
+            result: if takes(&[Stability]) { vec![0] } else { vec![] },
+        };
+        if state {
+            reference::write_state(&mut self.dec, &mut call.words, &mut call.halves);
+        }
+        if control {
+            reference::write_control(&mut self.control, &mut call.control, &mut call.taps);
+        }
+        call
+    }
+}
+
+#[derive(Clone)]
+pub struct Call {
+    pub what: What,
+    pub rate: i32,
+    pub subframes: i32,
+    pub signal: i8,
+    pub offset: i8,
+    pub interpolation: i8,
+    pub seed: i8,
+    pub length: usize,
+    pub words: Vec<i32>,
+    pub halves: Vec<i16>,
+    pub control: Vec<i32>,
+    pub taps: Vec<i16>,
+    pub rows: Vec<i16>,
+    pub lines: Vec<i16>,
+    pub pulses: Vec<i16>,
+    pub output: Vec<i16>,
+    pub coefficients: Vec<i16>,
+    pub result: Vec<i32>,
+}
+
+/// A slice of a call: its name, itself, and the size that it must have, or 0 where the call's numbers say it.
+pub type Slice<T> = (&'static str, fn(&mut Call) -> &mut Vec<T>, usize);
+
+pub const LONG: [Slice<i32>; 3] =
+    [("words", |c| &mut c.words, reference::WORDS), ("control", |c| &mut c.control, reference::CONTROL), ("result", |c| &mut c.result, 1)];
+
+pub const SHORT: [Slice<i16>; 7] = [
+    ("halves", |c| &mut c.halves, reference::HALVES),
+    ("taps", |c| &mut c.taps, reference::TAPS),
+    ("rows", |c| &mut c.rows, reference::ROWS),
+    ("lines", |c| &mut c.lines, 0),
+    ("pulses", |c| &mut c.pulses, 0),
+    ("output", |c| &mut c.output, 0),
+    ("coefficients", |c| &mut c.coefficients, 0),
+];
+
+/// Makes a call of the reference, in place.
+pub fn reference(c: &mut Call) -> i32 {
+    use reference::*;
+    let (words, halves, control, taps, output) = (&mut c.words, &mut c.halves, &mut c.control, &mut c.taps, &mut c.output);
+    match c.what {
+        What::SetUp => post_set_up(c.rate, c.subframes, words, halves),
+        What::Received => {
+            post_received(words, halves, c.signal, c.offset, c.interpolation, c.seed, control, taps, &c.rows, &c.lines, &c.pulses, output)
+        }
+        What::Lost => post_lost(words, halves, control, taps, output),
+        What::Core => post_core(words, halves, c.signal, c.offset, c.interpolation, c.seed, control, taps, &c.rows, &c.pulses, output),
+        What::PlcReceived => post_plc_received(words, halves, c.signal, c.offset, c.interpolation, control, taps, &c.rows),
+        What::PlcLost => post_plc_lost(words, halves, control, taps, output),
+        What::Glue => post_glue(words, halves, output, c.length),
+        What::Noise => post_noise(words, halves, control, taps, output, c.length),
+        What::Played => post_played(c.rate, c.subframes, output),
+        What::Stability => post_stability(&c.coefficients, c.length, &mut c.result),
+        What::Filter => post_filter(&mut c.coefficients, &c.lines, c.length),
+    }
+}
+
+/// The name of a place in a slice.
+pub fn place(slice: &str, index: usize) -> String {
+    fn named<T, const N: usize>(fields: [(&str, &mut [T]); N], index: usize) -> Option<String> {
+        let mut at = index;
+        for (name, field) in fields {
+            if at < field.len() {
+                return Some(if field.len() == 1 { name.to_string() } else { format!("{name}[{at}]") });
+            }
+            at -= field.len();
+        }
+        None
+    }
+    let name = match slice {
+        "words" => named(word_fields(&mut Default::default()), index),
+        "halves" => named(half_fields(&mut Default::default()), index),
+        "control" => named(control_fields(&mut Default::default()), index),
+        _ => None,
+    };
+    name.map_or(format!("{slice}[{index}]"), |name| format!("{slice}: {name}"))
+}
+
+/// What of a call isn't as in a plain one of the same shape.
+pub fn written(call: &Call, plain: &Call) -> String {
+    let (mut call, mut plain) = (call.clone(), plain.clone());
+    let mut text = format!("  {}, else as plain at {} kHz with {} subframes:\n", call.what.name(), plain.rate, plain.subframes);
+    let numbers = |c: &Call| {
+        [
+            ("rate", c.rate as i64),
+            ("subframes", c.subframes as i64),
+            ("signal", c.signal as i64),
+            ("offset", c.offset as i64),
+            ("interpolation", c.interpolation as i64),
+            ("seed", c.seed as i64),
+            ("length", c.length as i64),
+        ]
+    };
+    for ((name, value), (_, usual)) in numbers(&call).into_iter().zip(numbers(&plain)) {
+        if value != usual {
+            writeln!(text, "    {name} = {value}").unwrap();
+        }
+    }
+    fn slice<T: PartialEq + Copy + Into<i64>>(text: &mut String, name: &str, values: &[T], usual: &[T]) {
+        if values.len() != usual.len() {
+            writeln!(text, "    {name} has {} places, not {}", values.len(), usual.len()).unwrap();
+        }
+        for (index, (value, usual)) in values.iter().zip(usual).enumerate() {
+            if value != usual {
+                writeln!(text, "    {} = {}", place(name, index), (*value).into()).unwrap();
+            }
+        }
+    }
+    for (name, get, _) in LONG {
+        slice(&mut text, name, get(&mut call), get(&mut plain));
+    }
+    for (name, get, _) in SHORT {
+        slice(&mut text, name, get(&mut call), get(&mut plain));
+    }
+    text
+}

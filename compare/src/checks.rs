@@ -1,0 +1,202 @@
+//! The comparisons: each function on drawn calls, lists of frames, streams.
+
+use crate::call::{self, Call, Draft, LONG, SHORT, What, place, written};
+use crate::draw::{self, Draw, SHAPES};
+use crate::reference::{STOP, STOPPED, read_state};
+use crate::shrink::shrink;
+use crate::{ffi, rows, streams};
+use std::collections::BTreeMap;
+use std::path::{Path, PathBuf};
+
+/// What to compare, and how much of it.
+pub struct Options {
+    pub seed: u64,
+    pub from: u64,
+    pub count: u64,
+    pub streams: Option<PathBuf>,
+    /// The reference stands in for functions that the library lacks.
+    pub own: bool,
+    /// A function whose result is changed, to see that the comparison notices.
+    pub fault: Option<String>,
+}
+
+impl Options {
+    pub fn has(&self, what: What) -> bool {
+        self.own || what.linked()
+    }
+
+    /// Makes a call of both: the Rust's answer and what it left, or the first difference.
+    fn both(&self, before: &Call) -> Result<(i32, Call), String> {
+        let (mut rust, mut library) = (before.clone(), before.clone());
+        let expected = call::reference(&mut rust);
+        if expected == STOPPED {
+            return Err(format!("the Rust stops: {}", STOP.lock().unwrap()));
+        }
+        let answer = ffi::call(&mut library);
+        if self.fault.as_deref() == Some(before.what.name()) {
+            harm(before, &mut library);
+        }
+        if answer != expected {
+            return Err(format!("answer: Rust {expected}, library {answer}"));
+        }
+        let mut differs = None;
+        fn first<T: PartialEq + Copy + Into<i64>>(name: &str, rust: &[T], library: &[T]) -> Option<String> {
+            let at = (0..rust.len()).find(|at| rust[*at] != library[*at])?;
+            Some(format!("{}: Rust {}, library {}", place(name, at), rust[at].into(), library[at].into()))
+        }
+        for (name, get, _) in LONG {
+            differs = differs.or_else(|| first(name, get(&mut rust), get(&mut library)));
+        }
+        for (name, get, _) in SHORT {
+            differs = differs.or_else(|| first(name, get(&mut rust), get(&mut library)));
+        }
+        differs.map_or(Ok((expected, rust)), Err)
+    }
+
+    /// Prints the first difference with its smallest input.
+    fn report(&self, title: &str, before: Call, why: String) {
+        println!("{title}: {why}");
+        let (smallest, plain) = shrink(before, |trial| self.both(trial).is_err());
+        println!("  the smallest input found: {}", self.both(&smallest).err().unwrap_or_default());
+        print!("{}", written(&smallest, &plain));
+    }
+
+    /// One function on drawn calls.
+    pub fn function(&self, what: What) -> bool {
+        let mut answers = BTreeMap::new();
+        for case in self.from..self.from + self.count {
+            let call = draw::call(&mut Draw::new(self.seed, what as u64, case), what);
+            match self.both(&call) {
+                Ok((answer, _)) => *answers.entry(answer).or_insert(0) += 1,
+                Err(why) => {
+                    self.report(&format!("{}: case {case} of seed {}", what.name(), self.seed), call, why);
+                    return false;
+                }
+            }
+        }
+        println!("{}: {} calls equal; {}", what.name(), self.count, told(&answers));
+        true
+    }
+
+    /// Lists of received, lost and refused frames, from set-up and from accepted states. Number 3 never comes.
+    pub fn lists(&self) -> bool {
+        let (mut answers, mut frames, mut list, mut longest) = (BTreeMap::new(), 0, self.from, 0);
+        while frames < self.count {
+            let draw = &mut Draw::new(self.seed, 99, list);
+            let (rate, subframes) = draw.pick(&SHAPES);
+            let mut draft = Draft::plain(What::Received, rate, subframes);
+            if draw.one_in(3) {
+                draft.dec = draw::state(draw);
+            }
+            let (mut left, mut lost, mut row, mut counted) = (draw.pick(&[3, 10, 30, 100]), false, 0, 0);
+            while left > 0 && frames < self.count {
+                if row == 0 {
+                    lost = draw.one_in(2);
+                    row = if lost { draw.pick(&[1, 1, 1, 2, 3, 5, 10, 50]) } else { 1 + draw.below(12) };
+                    if lost && draw.one_in(200) {
+                        row = 1_100;
+                    }
+                    left -= 1;
+                }
+                row -= 1;
+                frames += 1;
+                draft.what = if lost { What::Lost } else { What::Received };
+                draw::frame(draw, &mut draft);
+                if lost {
+                    draw::any_control(draw, &mut draft.control);
+                }
+                let mut broken = draft.clone();
+                if draw.one_in(16) {
+                    draw::break_frame(draw, &mut broken);
+                }
+                if draw.one_in(32) {
+                    draw::break_length(draw, &mut broken);
+                }
+                let call = broken.call();
+                match self.both(&call) {
+                    Ok((3, _)) => {
+                        println!("lists: list {list} of seed {}: refused by 3", self.seed);
+                        return false;
+                    }
+                    Ok((answer, after)) => {
+                        *answers.entry(answer).or_insert(0) += 1;
+                        counted = if lost { counted + (answer == 0) as u64 } else { counted * (answer != 0) as u64 };
+                        longest = longest.max(counted);
+                        draft.dec = read_state(&after.words, &after.halves);
+                    }
+                    Err(why) => {
+                        self.report(&format!("lists: list {list} of seed {}", self.seed), call, why);
+                        return false;
+                    }
+                }
+            }
+            list += 1;
+        }
+        println!("lists: {frames} frames in {} lists equal, at most {longest} losses in a row; {}", list - self.from, told(&answers));
+        true
+    }
+
+    /// Hand-made rows on the reference, and on the library where it has the function.
+    pub fn rows(&self) -> bool {
+        let mut wrong = 0;
+        for row in rows::all() {
+            let call = row.call();
+            let made = if self.has(row.what) {
+                self.both(&call)
+            } else {
+                let mut after = call.clone();
+                Ok((call::reference(&mut after), after))
+            };
+            let found = made.and_then(|(answer, after)| row.check(answer, &call, &after));
+            if let Err(why) = found {
+                wrong += 1;
+                if wrong <= 10 {
+                    println!("rows: {}: {}: {why}", row.what.name(), row.label);
+                }
+            }
+        }
+        println!("rows: {wrong} of {} differ", rows::all().len());
+        wrong == 0
+    }
+
+    /// A stream, played by the reference and, where it has the functions, by the library.
+    pub fn stream(&self, file: &Path) -> bool {
+        let library = [What::SetUp, What::Received, What::Lost].iter().all(|what| self.has(*what));
+        let played = streams::read(file).and_then(|stream| {
+            streams::play(&stream, |call| Ok(call::reference(call))).map_err(|why| format!("{}: the reference: {why}", stream.name))?;
+            if library {
+                let made = |call: &mut Call| {
+                    let (answer, after) = self.both(call)?;
+                    *call = after;
+                    Ok(answer)
+                };
+                streams::play(&stream, made).map_err(|why| format!("{}: the library: {why}", stream.name))?;
+            }
+            let who = if library { "reference and library play" } else { "reference plays" };
+            Ok(format!("{}: {who} all {} records as recorded", stream.name, stream.records.len()))
+        });
+        match &played {
+            Ok(text) | Err(text) => println!("streams: {text}"),
+        }
+        played.is_ok()
+    }
+}
+
+/// A fault for a test: shows only where the input has a large third number.
+fn harm(before: &Call, after: &mut Call) {
+    let third = [&before.halves, &before.lines, &before.coefficients, &before.output].iter().find_map(|numbers| numbers.get(2).copied());
+    if third.is_some_and(|number| number > 1000) {
+        for (_, get, _) in SHORT {
+            if let Some(number) = get(after).get_mut(3) {
+                *number ^= 1;
+                return;
+            }
+        }
+    }
+}
+
+/// How often each answer came.
+fn told(answers: &BTreeMap<i32, u64>) -> String {
+    let each: Vec<String> = answers.iter().map(|(answer, count)| format!("{answer}: {count}")).collect();
+    format!("answers {}", each.join(", "))
+}

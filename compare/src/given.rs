@@ -1,0 +1,7 @@
+//! The given Rust, compiled from its sources where they lie, as a library of its own.
+
+mod missing;
+
+pub use missing::range_coder;
+
+include!(concat!(env!("OUT_DIR"), "/given.rs"));

@@ -1,0 +1,100 @@
+//! The given Rust beside the proved library.
+
+mod bench;
+mod call;
+mod checks;
+mod draw;
+mod ffi;
+#[allow(unused)]
+#[rustfmt::skip]
+mod mirror;
+mod reference;
+mod rows;
+mod shrink;
+mod streams;
+
+use call::What;
+use checks::Options;
+use std::panic::catch_unwind;
+use std::path::{Path, PathBuf};
+use std::process::ExitCode;
+
+const USAGE: &str = "compare/run SOURCES [--seed S] [--from CASE] [--count N] [--streams FOLDER] [--self] [WHAT ...]";
+const OTHERS: [&str; 3] = ["rows", "lists", "streams"];
+
+fn main() -> ExitCode {
+    let words: Vec<String> = std::env::args().skip(1).collect();
+    let texts: Vec<&str> = words.iter().map(String::as_str).collect();
+    std::panic::set_hook(Box::new(|why| *reference::STOP.lock().unwrap() = why.to_string()));
+    let done = catch_unwind(|| match texts[..] {
+        ["run", ..] => run(&texts[1..]),
+        ["bench", folder] => bench::bench(Path::new(folder), false).map(|()| true),
+        ["bench", folder, "--self"] => bench::bench(Path::new(folder), true).map(|()| true),
+        ["count", folder, shape] => bench::count(Path::new(folder), shape).map(|()| true),
+        _ => Err(USAGE.into()),
+    });
+    match done.unwrap_or_else(|_| Err(reference::STOP.lock().unwrap().clone())) {
+        Ok(true) => ExitCode::SUCCESS,
+        Ok(false) => ExitCode::FAILURE,
+        Err(why) => {
+            eprintln!("{why}");
+            ExitCode::from(2)
+        }
+    }
+}
+
+fn run(words: &[&str]) -> Result<bool, String> {
+    let fault = std::env::var("COMPARE_FAULT").ok();
+    let mut options = Options { seed: 1, from: 0, count: 10_000, streams: None, own: false, fault };
+    let mut named = vec![];
+    let mut words = words.iter().copied();
+    while let Some(word) = words.next() {
+        let mut value = || words.next().ok_or(USAGE);
+        let number = |text: &str| text.parse::<u64>().map_err(|why| format!("{text}: {why}"));
+        match word {
+            "--seed" => options.seed = number(value()?)?,
+            "--from" => options.from = number(value()?)?,
+            "--count" => options.count = number(value()?)?,
+            "--streams" => options.streams = Some(PathBuf::from(value()?)),
+            "--self" => options.own = true,
+            _ if OTHERS.contains(&word) || What::ALL.iter().any(|(_, name, _)| *name == word) => named.push(word),
+            _ => return Err(format!("{word}?\n{USAGE}")),
+        }
+    }
+    let wanted = |name: &str| named.is_empty() || named.contains(&name);
+    let mut outcomes = vec![];
+    if wanted("rows") {
+        outcomes.push(options.rows());
+    }
+    for (what, name, _) in What::ALL {
+        if !wanted(name) {
+            continue;
+        }
+        if options.has(what) {
+            outcomes.push(options.function(what));
+        } else {
+            println!("{name}: absent from the library");
+        }
+    }
+    if wanted("lists") {
+        if options.has(What::Received) && options.has(What::Lost) {
+            outcomes.push(options.lists());
+        } else {
+            println!("lists: absent from the library");
+        }
+    }
+    if wanted("streams") {
+        match &options.streams {
+            Some(folder) => {
+                for file in streams::folder(folder)? {
+                    outcomes.push(options.stream(&file));
+                }
+            }
+            None if named.is_empty() => println!("streams: no folder is named"),
+            None => return Err("streams: --streams FOLDER is needed".into()),
+        }
+    }
+    let passed = outcomes.iter().filter(|passed| **passed).count();
+    println!("{passed} passed, {} failed", outcomes.len() - passed);
+    Ok(passed == outcomes.len())
+}

@@ -1,0 +1,86 @@
+//! The reference in the library's place: each exported function that the library lacks.
+
+use crate::reference;
+use std::slice::{from_raw_parts as part, from_raw_parts_mut as part_mut};
+
+type Longs = *mut i32;
+type Shorts = *mut i16;
+
+#[cfg(not(has_set_up))]
+#[unsafe(no_mangle)]
+unsafe extern "C" fn post_set_up(rate: i32, subframes: i32, w: Longs, wn: usize, h: Shorts, hn: usize) -> i32 {
+    unsafe { reference::post_set_up(rate, subframes, part_mut(w, wn), part_mut(h, hn)) }
+}
+
+#[cfg(not(has_received))]
+#[unsafe(no_mangle)]
+unsafe extern "C" fn post_received(w: Longs, wn: usize, h: Shorts, hn: usize, signal: i8, offset: i8, interpolation: i8, seed: i8,
+    c: Longs, cn: usize, t: Shorts, tn: usize, r: Shorts, rn: usize, l: Shorts, ln: usize, p: Shorts, pn: usize, o: Shorts, on: usize) -> i32 {
+    unsafe {
+        reference::post_received(part_mut(w, wn), part_mut(h, hn), signal, offset, interpolation, seed,
+            part_mut(c, cn), part_mut(t, tn), part(r, rn), part(l, ln), part(p, pn), part_mut(o, on))
+    }
+}
+
+#[cfg(not(has_lost))]
+#[unsafe(no_mangle)]
+unsafe extern "C" fn post_lost(w: Longs, wn: usize, h: Shorts, hn: usize, c: Longs, cn: usize, t: Shorts, tn: usize, o: Shorts, on: usize) -> i32 {
+    unsafe { reference::post_lost(part_mut(w, wn), part_mut(h, hn), part_mut(c, cn), part_mut(t, tn), part_mut(o, on)) }
+}
+
+#[cfg(not(has_core))]
+#[unsafe(no_mangle)]
+unsafe extern "C" fn post_core(w: Longs, wn: usize, h: Shorts, hn: usize, signal: i8, offset: i8, interpolation: i8, seed: i8,
+    c: Longs, cn: usize, t: Shorts, tn: usize, r: Shorts, rn: usize, p: Shorts, pn: usize, o: Shorts, on: usize) -> i32 {
+    unsafe {
+        reference::post_core(part_mut(w, wn), part_mut(h, hn), signal, offset, interpolation, seed,
+            part_mut(c, cn), part_mut(t, tn), part(r, rn), part(p, pn), part_mut(o, on))
+    }
+}
+
+#[cfg(not(has_plc_received))]
+#[unsafe(no_mangle)]
+unsafe extern "C" fn post_plc_received(w: Longs, wn: usize, h: Shorts, hn: usize, signal: i8, offset: i8, interpolation: i8,
+    c: Longs, cn: usize, t: Shorts, tn: usize, r: Shorts, rn: usize) -> i32 {
+    unsafe {
+        reference::post_plc_received(part_mut(w, wn), part_mut(h, hn), signal, offset, interpolation,
+            part_mut(c, cn), part_mut(t, tn), part(r, rn))
+    }
+}
+
+#[cfg(not(has_plc_lost))]
+#[unsafe(no_mangle)]
+unsafe extern "C" fn post_plc_lost(w: Longs, wn: usize, h: Shorts, hn: usize, c: Longs, cn: usize, t: Shorts, tn: usize, o: Shorts, on: usize) -> i32 {
+    unsafe { reference::post_plc_lost(part_mut(w, wn), part_mut(h, hn), part_mut(c, cn), part_mut(t, tn), part_mut(o, on)) }
+}
+
+#[cfg(not(has_glue))]
+#[unsafe(no_mangle)]
+unsafe extern "C" fn post_glue(w: Longs, wn: usize, h: Shorts, hn: usize, b: Shorts, bn: usize, length: usize) -> i32 {
+    unsafe { reference::post_glue(part_mut(w, wn), part_mut(h, hn), part_mut(b, bn), length) }
+}
+
+#[cfg(not(has_noise))]
+#[unsafe(no_mangle)]
+unsafe extern "C" fn post_noise(w: Longs, wn: usize, h: Shorts, hn: usize, c: Longs, cn: usize, t: Shorts, tn: usize,
+    b: Shorts, bn: usize, length: usize) -> i32 {
+    unsafe { reference::post_noise(part_mut(w, wn), part_mut(h, hn), part(c, cn), part(t, tn), part_mut(b, bn), length) }
+}
+
+#[cfg(not(has_played))]
+#[unsafe(no_mangle)]
+unsafe extern "C" fn post_played(rate: i32, subframes: i32, o: Shorts, on: usize) -> i32 {
+    unsafe { reference::post_played(rate, subframes, part_mut(o, on)) }
+}
+
+#[cfg(not(has_stability))]
+#[unsafe(no_mangle)]
+unsafe extern "C" fn post_stability(a: Shorts, an: usize, order: usize, r: Longs, rn: usize) -> i32 {
+    unsafe { reference::post_stability(part(a, an), order, part_mut(r, rn)) }
+}
+
+#[cfg(not(has_filter))]
+#[unsafe(no_mangle)]
+unsafe extern "C" fn post_filter(a: Shorts, an: usize, l: Shorts, ln: usize, order: usize) -> i32 {
+    unsafe { reference::post_filter(part_mut(a, an), part(l, ln), order) }
+}

@@ -1,0 +1,420 @@
+//! Every function of the library as the given Rust would have it: document 01's rows, then the Rust's own stage or frame.
+
+use given::range_coder::RangeCoder;
+use given::silk::cng::silk_cng;
+use given::silk::decode_core::silk_decode_core;
+use given::silk::decode_frame::{FLAG_DECODE_NORMAL, FLAG_PACKET_LOST, silk_decode_frame};
+use given::silk::decoder_structs::{SilkDecoderControl, SilkDecoderState};
+use given::silk::lpc_analysis::silk_lpc_inverse_pred_gain;
+use given::silk::nlsf::silk_nlsf2a;
+use given::silk::plc::{silk_plc, silk_plc_glue_frames};
+use given::silk::structs::SideInfoIndices;
+use std::panic::{AssertUnwindSafe, catch_unwind};
+use std::slice::from_mut as one;
+use std::sync::Mutex;
+
+pub const WORDS: usize = 696;
+pub const HALVES: usize = 535;
+pub const CONTROL: usize = 9;
+pub const TAPS: usize = 20;
+pub const ROWS: usize = 32;
+pub const LINES: usize = 16;
+
+/// A slice that must have a size is shorter.
+const TOO_SHORT: i32 = -1;
+/// The Rust stopped on input that document 01 accepts.
+pub const STOPPED: i32 = i32::MIN;
+/// What was said at the last stop.
+pub static STOP: Mutex<String> = Mutex::new(String::new());
+
+// The library's form of the state and of a description.
+
+/// The state's i32 fields in the library's order.
+pub fn word_fields(dec: &mut SilkDecoderState) -> [(&'static str, &mut [i32]); 27] {
+    let (plc, cng) = (&mut dec.s_plc, &mut dec.s_cng);
+    [
+        ("prev_gain_q16", one(&mut dec.prev_gain_q16)),
+        ("exc_q14", &mut dec.exc_q14),
+        ("s_lpc_q14_buf", &mut dec.s_lpc_q14_buf),
+        ("lag_prev", one(&mut dec.lag_prev)),
+        ("fs_khz", one(&mut dec.fs_khz)),
+        ("nb_subfr", one(&mut dec.nb_subfr)),
+        ("frame_length", one(&mut dec.frame_length)),
+        ("subfr_length", one(&mut dec.subfr_length)),
+        ("ltp_mem_length", one(&mut dec.ltp_mem_length)),
+        ("lpc_order", one(&mut dec.lpc_order)),
+        ("first_frame_after_reset", one(&mut dec.first_frame_after_reset)),
+        ("loss_cnt", one(&mut dec.loss_cnt)),
+        ("prev_signal_type", one(&mut dec.prev_signal_type)),
+        ("s_plc.pitch_l_q8", one(&mut plc.pitch_l_q8)),
+        ("s_plc.last_frame_lost", one(&mut plc.last_frame_lost)),
+        ("s_plc.rand_seed", one(&mut plc.rand_seed)),
+        ("s_plc.conc_energy", one(&mut plc.conc_energy)),
+        ("s_plc.conc_energy_shift", one(&mut plc.conc_energy_shift)),
+        ("s_plc.prev_gain_q16", &mut plc.prev_gain_q16),
+        ("s_plc.fs_khz", one(&mut plc.fs_khz)),
+        ("s_plc.nb_subfr", one(&mut plc.nb_subfr)),
+        ("s_plc.subfr_length", one(&mut plc.subfr_length)),
+        ("s_cng.cng_exc_buf_q14", &mut cng.cng_exc_buf_q14),
+        ("s_cng.cng_synth_state", &mut cng.cng_synth_state),
+        ("s_cng.cng_smth_gain_q16", one(&mut cng.cng_smth_gain_q16)),
+        ("s_cng.rand_seed", one(&mut cng.rand_seed)),
+        ("s_cng.fs_khz", one(&mut cng.fs_khz)),
+    ]
+}
+
+/// The state's i16 fields in the library's order.
+pub fn half_fields(dec: &mut SilkDecoderState) -> [(&'static str, &mut [i16]); 7] {
+    let plc = &mut dec.s_plc;
+    [
+        ("out_buf", &mut dec.out_buf),
+        ("prev_nlsf_q15", &mut dec.prev_nlsf_q15),
+        ("s_plc.ltp_coef_q14", &mut plc.ltp_coef_q14),
+        ("s_plc.prev_lpc_q12", &mut plc.prev_lpc_q12),
+        ("s_plc.rand_scale_q14", one(&mut plc.rand_scale_q14)),
+        ("s_plc.prev_ltp_scale_q14", one(&mut plc.prev_ltp_scale_q14)),
+        ("s_cng.cng_smth_nlsf_q15", &mut dec.s_cng.cng_smth_nlsf_q15),
+    ]
+}
+
+/// A description's i32 fields in the library's order.
+pub fn control_fields(control: &mut SilkDecoderControl) -> [(&'static str, &mut [i32]); 3] {
+    [("pitch_l", &mut control.pitch_l), ("gains_q16", &mut control.gains_q16), ("ltp_scale_q14", one(&mut control.ltp_scale_q14))]
+}
+
+fn read<T: Copy, const N: usize>(fields: [(&str, &mut [T]); N], mut from: &[T]) {
+    for (_, field) in fields {
+        let (first, rest) = from.split_at(field.len());
+        field.copy_from_slice(first);
+        from = rest;
+    }
+}
+
+fn write<T: Copy, const N: usize>(fields: [(&str, &mut [T]); N], mut to: &mut [T]) {
+    for (_, field) in fields {
+        let (first, rest) = to.split_at_mut(field.len());
+        first.copy_from_slice(field);
+        to = rest;
+    }
+}
+
+pub fn read_state(words: &[i32], halves: &[i16]) -> SilkDecoderState {
+    let mut dec = SilkDecoderState::default();
+    read(word_fields(&mut dec), words);
+    read(half_fields(&mut dec), halves);
+    dec
+}
+
+pub fn write_state(dec: &mut SilkDecoderState, words: &mut [i32], halves: &mut [i16]) {
+    write(word_fields(dec), words);
+    write(half_fields(dec), halves);
+}
+
+pub fn read_control(control: &[i32], taps: &[i16], rows: &[i16]) -> SilkDecoderControl {
+    let mut read_in = SilkDecoderControl::default();
+    read(control_fields(&mut read_in), control);
+    read_in.ltp_coef_q14.copy_from_slice(&taps[..TAPS]);
+    for (row, from) in read_in.pred_coef_q12.iter_mut().zip(rows.chunks(LINES)) {
+        row.copy_from_slice(from);
+    }
+    read_in
+}
+
+pub fn write_control(from: &mut SilkDecoderControl, control: &mut [i32], taps: &mut [i16]) {
+    write(control_fields(from), control);
+    taps[..TAPS].copy_from_slice(&from.ltp_coef_q14);
+}
+
+fn indices(signal: i8, offset: i8, interpolation: i8, seed: i8) -> SideInfoIndices {
+    SideInfoIndices { signal_type: signal, quant_offset_type: offset, nlsf_interp_coef_q2: interpolation, seed, ..Default::default() }
+}
+
+// Document 01, "Why a frame is turned down": the first row that applies.
+
+type Judged = Result<(), i32>;
+
+fn unless(row: i32, fine: bool) -> Judged {
+    if fine { Ok(()) } else { Err(row) }
+}
+
+fn judge_sizes(sizes: &[(usize, usize)]) -> Judged {
+    unless(TOO_SHORT, sizes.iter().all(|(length, size)| length >= size))
+}
+
+fn judge_shape(rate: i32, subframes: i32) -> Judged {
+    unless(1, [8, 12, 16].contains(&rate))?;
+    unless(2, [2, 4].contains(&subframes))
+}
+
+fn order_at(rate: i32) -> i32 {
+    if rate == 16 { 16 } else { 10 }
+}
+
+fn none_negative(lines: &[i16]) -> bool {
+    lines.iter().all(|line| *line >= 0)
+}
+
+/// Rows 1 to 3.
+fn judge_state(dec: &SilkDecoderState) -> Judged {
+    let (r, n) = (dec.fs_khz, dec.nb_subfr);
+    judge_shape(r, n)?;
+    unless(2, dec.frame_length == 5 * r * n && dec.subfr_length == 5 * r && dec.ltp_mem_length == 20 * r && dec.lpc_order == order_at(r))?;
+    let order = dec.lpc_order as usize;
+    let gain = 65_536..=1_686_110_208;
+    unless(
+        3,
+        dec.loss_cnt >= 0
+            && (dec.loss_cnt == 0 || (2 * r..=18 * r).contains(&dec.lag_prev))
+            && (0..=2).contains(&dec.prev_signal_type)
+            && gain.contains(&dec.prev_gain_q16)
+            && (0..=1).contains(&dec.first_frame_after_reset)
+            && (0..=1).contains(&dec.s_plc.last_frame_lost)
+            && none_negative(&dec.prev_nlsf_q15[..order]),
+    )?;
+    let plc = &dec.s_plc;
+    let [first, second, middle, fourth, fifth] = plc.ltp_coef_q14;
+    unless(
+        3,
+        [first, second, fourth, fifth] == [0; 4]
+            && (-11_456..=15_565).contains(&middle)
+            && (0..=27_840).contains(&plc.rand_scale_q14)
+            && (0..=16_384).contains(&plc.prev_ltp_scale_q14)
+            && plc.conc_energy >= 0
+            && (0..=31).contains(&plc.conc_energy_shift),
+    )?;
+    let subframes = (plc.nb_subfr, plc.subfr_length);
+    unless(
+        3,
+        plc.fs_khz != r
+            || (512 * r..=4_608 * r).contains(&plc.pitch_l_q8)
+                && plc.prev_gain_q16.iter().all(|g| gain.contains(g))
+                && [(2, 20), (2, 5 * r), (4, 5 * r)].contains(&subframes),
+    )?;
+    let cng = &dec.s_cng;
+    unless(3, cng.fs_khz != r || none_negative(&cng.cng_smth_nlsf_q15[..order]) && (0..=1_686_110_208).contains(&cng.cng_smth_gain_q16))
+}
+
+/// Rows 1 to 4, 11.
+fn judge_lost(dec: &SilkDecoderState, output: &[i16]) -> Judged {
+    judge_state(dec)?;
+    unless(4, dec.loss_cnt != 2_147_483_647)?;
+    judge_room(11, dec, output)
+}
+
+/// Row 6.
+fn judge_gains(dec: &SilkDecoderState, control: &SilkDecoderControl) -> Judged {
+    let gains = &control.gains_q16[..dec.nb_subfr as usize];
+    unless(6, gains.iter().all(|g| (81_920..=1_686_110_208).contains(g)))
+}
+
+/// Rows 5 to 8.
+fn judge_description(dec: &SilkDecoderState, control: &SilkDecoderControl) -> Judged {
+    let (r, n) = (dec.fs_khz, dec.nb_subfr as usize);
+    let voiced = dec.indices.signal_type == 2;
+    unless(
+        5,
+        (0..=2).contains(&dec.indices.signal_type)
+            && (0..=1).contains(&dec.indices.quant_offset_type)
+            && (0..=4).contains(&dec.indices.nlsf_interp_coef_q2),
+    )?;
+    judge_gains(dec, control)?;
+    let lags = &control.pitch_l[..n];
+    unless(7, !voiced || lags.iter().all(|l| (2 * r..=18 * r).contains(l)))?;
+    let sum = |taps: &[i16]| taps.iter().map(|tap| *tap as i32).sum::<i32>();
+    let mut sums = control.ltp_coef_q14.chunks(5).take(n).map(sum);
+    unless(8, (0..=16_384).contains(&control.ltp_scale_q14) && (!voiced || sums.all(|sum| (-32_768..=32_767).contains(&sum))))
+}
+
+/// Rows 10 and 11.
+fn judge_room(row: i32, dec: &SilkDecoderState, lent: &[i16]) -> Judged {
+    unless(row, lent.len() >= dec.frame_length as usize)
+}
+
+/// Row 12.
+fn judge_length(buffer: &[i16], length: usize) -> Judged {
+    unless(12, (1..=320).contains(&length) && length <= buffer.len())
+}
+
+fn answer(judged: impl FnOnce() -> Judged) -> i32 {
+    judged().err().unwrap_or(0)
+}
+
+fn run<T>(rust: impl FnOnce() -> T) -> Result<T, i32> {
+    catch_unwind(AssertUnwindSafe(rust)).map_err(|_| STOPPED)
+}
+
+// The library's functions.
+
+/// The crate's default state with the shape's sizes filled in.
+pub fn set_up(rate: i32, subframes: i32) -> SilkDecoderState {
+    SilkDecoderState {
+        fs_khz: rate,
+        nb_subfr: subframes,
+        frame_length: 5 * rate * subframes,
+        subfr_length: 5 * rate,
+        ltp_mem_length: 20 * rate,
+        lpc_order: order_at(rate),
+        ..Default::default()
+    }
+}
+
+pub fn post_set_up(rate: i32, subframes: i32, words: &mut [i32], halves: &mut [i16]) -> i32 {
+    answer(|| {
+        judge_sizes(&[(words.len(), WORDS), (halves.len(), HALVES)])?;
+        judge_shape(rate, subframes)?;
+        write_state(&mut set_up(rate, subframes), words, halves);
+        Ok(())
+    })
+}
+
+#[allow(clippy::too_many_arguments)]
+pub fn post_received(
+    words: &mut [i32], halves: &mut [i16], signal: i8, offset: i8, interpolation: i8, seed: i8, control: &mut [i32], taps: &mut [i16],
+    rows: &[i16], lines: &[i16], pulses: &[i16], output: &mut [i16],
+) -> i32 {
+    answer(|| {
+        judge_sizes(&[
+            (words.len(), WORDS),
+            (halves.len(), HALVES),
+            (control.len(), CONTROL),
+            (taps.len(), TAPS),
+            (rows.len(), ROWS),
+            (lines.len(), LINES),
+        ])?;
+        let mut dec = read_state(words, halves);
+        dec.indices = indices(signal, offset, interpolation, seed);
+        let mut frame = RangeCoder {
+            indices: dec.indices,
+            lines: lines[..LINES].try_into().unwrap(),
+            pulses,
+            control: read_control(control, taps, rows),
+        };
+        judge_state(&dec)?;
+        judge_description(&dec, &frame.control)?;
+        unless(9, none_negative(&lines[..dec.lpc_order as usize]))?;
+        judge_room(10, &dec, pulses)?;
+        judge_room(11, &dec, output)?;
+        run(|| silk_decode_frame(&mut dec, &mut frame, output, &mut 0, FLAG_DECODE_NORMAL, 0))?;
+        write_state(&mut dec, words, halves);
+        write_control(&mut frame.control, control, taps);
+        Ok(())
+    })
+}
+
+pub fn post_lost(words: &mut [i32], halves: &mut [i16], control: &mut [i32], taps: &mut [i16], output: &mut [i16]) -> i32 {
+    answer(|| {
+        judge_sizes(&[(words.len(), WORDS), (halves.len(), HALVES), (control.len(), CONTROL), (taps.len(), TAPS)])?;
+        let mut dec = read_state(words, halves);
+        let mut frame =
+            RangeCoder { indices: SideInfoIndices::default(), lines: [0; LINES], pulses: &[], control: read_control(control, taps, &[]) };
+        judge_lost(&dec, output)?;
+        run(|| silk_decode_frame(&mut dec, &mut frame, output, &mut 0, FLAG_PACKET_LOST, 0))?;
+        write_state(&mut dec, words, halves);
+        write_control(&mut frame.control, control, taps);
+        Ok(())
+    })
+}
+
+#[allow(clippy::too_many_arguments)]
+pub fn post_core(
+    words: &mut [i32], halves: &mut [i16], signal: i8, offset: i8, interpolation: i8, seed: i8, control: &mut [i32], taps: &mut [i16],
+    rows: &[i16], pulses: &[i16], output: &mut [i16],
+) -> i32 {
+    answer(|| {
+        judge_sizes(&[(words.len(), WORDS), (halves.len(), HALVES), (control.len(), CONTROL), (taps.len(), TAPS), (rows.len(), ROWS)])?;
+        let mut dec = read_state(words, halves);
+        dec.indices = indices(signal, offset, interpolation, seed);
+        let mut description = read_control(control, taps, rows);
+        judge_state(&dec)?;
+        judge_description(&dec, &description)?;
+        judge_room(10, &dec, pulses)?;
+        judge_room(11, &dec, output)?;
+        run(|| silk_decode_core(&mut dec, &mut description, output, pulses))?;
+        write_state(&mut dec, words, halves);
+        write_control(&mut description, control, taps);
+        Ok(())
+    })
+}
+
+#[allow(clippy::too_many_arguments)]
+pub fn post_plc_received(
+    words: &mut [i32], halves: &mut [i16], signal: i8, offset: i8, interpolation: i8, control: &mut [i32], taps: &mut [i16], rows: &[i16],
+) -> i32 {
+    answer(|| {
+        judge_sizes(&[(words.len(), WORDS), (halves.len(), HALVES), (control.len(), CONTROL), (taps.len(), TAPS), (rows.len(), ROWS)])?;
+        let mut dec = read_state(words, halves);
+        dec.indices = indices(signal, offset, interpolation, 0);
+        let mut description = read_control(control, taps, rows);
+        judge_state(&dec)?;
+        judge_description(&dec, &description)?;
+        run(|| silk_plc(&mut dec, &mut description, &mut [], 0))?;
+        write_state(&mut dec, words, halves);
+        write_control(&mut description, control, taps);
+        Ok(())
+    })
+}
+
+pub fn post_plc_lost(words: &mut [i32], halves: &mut [i16], control: &mut [i32], taps: &mut [i16], output: &mut [i16]) -> i32 {
+    answer(|| {
+        judge_sizes(&[(words.len(), WORDS), (halves.len(), HALVES), (control.len(), CONTROL), (taps.len(), TAPS)])?;
+        let mut dec = read_state(words, halves);
+        let mut description = read_control(control, taps, &[]);
+        judge_lost(&dec, output)?;
+        run(|| silk_plc(&mut dec, &mut description, output, 1))?;
+        write_state(&mut dec, words, halves);
+        write_control(&mut description, control, taps);
+        Ok(())
+    })
+}
+
+pub fn post_glue(words: &mut [i32], halves: &mut [i16], buffer: &mut [i16], length: usize) -> i32 {
+    answer(|| {
+        judge_sizes(&[(words.len(), WORDS), (halves.len(), HALVES)])?;
+        let mut dec = read_state(words, halves);
+        judge_state(&dec)?;
+        judge_length(buffer, length)?;
+        run(|| silk_plc_glue_frames(&mut dec, buffer, length))?;
+        write_state(&mut dec, words, halves);
+        Ok(())
+    })
+}
+
+pub fn post_noise(words: &mut [i32], halves: &mut [i16], control: &[i32], taps: &[i16], buffer: &mut [i16], length: usize) -> i32 {
+    answer(|| {
+        judge_sizes(&[(words.len(), WORDS), (halves.len(), HALVES), (control.len(), CONTROL), (taps.len(), TAPS)])?;
+        let mut dec = read_state(words, halves);
+        let description = read_control(control, taps, &[]);
+        judge_state(&dec)?;
+        if dec.loss_cnt == 0 {
+            judge_gains(&dec, &description)?;
+        }
+        judge_length(buffer, length)?;
+        run(|| silk_cng(&mut dec, &description, buffer, length))?;
+        write_state(&mut dec, words, halves);
+        Ok(())
+    })
+}
+
+pub fn post_played(rate: i32, subframes: i32, output: &mut [i16]) -> i32 {
+    let played = |length: i32| {
+        if output.len() >= length as usize { length } else { 0 }
+    };
+    judge_shape(rate, subframes).map_or(0, |()| played(5 * rate * subframes))
+}
+
+pub fn post_stability(coefficients: &[i16], order: usize, result: &mut [i32]) -> i32 {
+    answer(|| {
+        judge_sizes(&[(result.len(), 1)])?;
+        unless(13, (1..=16).contains(&order) && order <= coefficients.len())?;
+        result[0] = run(|| silk_lpc_inverse_pred_gain(coefficients, order))?;
+        Ok(())
+    })
+}
+
+pub fn post_filter(coefficients: &mut [i16], lines: &[i16], order: usize) -> i32 {
+    answer(|| {
+        unless(13, [10, 16].contains(&order) && order <= coefficients.len() && order <= lines.len())?;
+        unless(9, none_negative(&lines[..order]))?;
+        run(|| silk_nlsf2a(&mut coefficients[..order], lines, order))
+    })
+}
