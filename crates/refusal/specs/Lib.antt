@@ -1,3 +1,4 @@
 -- The definitions that the contracts cite.
 pub mod Letters
 pub mod Refusals
+pub mod First

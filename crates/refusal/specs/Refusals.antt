@@ -2,6 +2,8 @@
 use Prim.Native.Nat.{ℕ, _-_}
 use Prim.Native.String.{String}
 use mathlib.Core.List.{List, [], _∷_, _++_}
+use mathlib.Core.Bool.{cond}
+use lib.Dec.{eqb}
 use lib.ListN.{length, replicate}
 use Rattle.refusal.specs.Letters.{letters}
 use Rattle.refusal.specs.declared.Refusal.{Refusal}
@@ -41,6 +43,10 @@ refusalWord Pulses = "pulses"
 refusalWord Speaker = "speaker"
 refusalWord Length = "length"
 refusalWord Order = "order"
+
+-- the first of two values if nothing is refused, else the second
+abbrev pub ifAccepted {ℓ} : {A : Type ℓ} → Refusal → A → A → A
+ifAccepted r new old = cond (eqb (refusalNumber r) 0) new old
 
 -- a text as the code has it: its letters, zeros up to eight places, and how many letters it has
 abbrev pub textOf : String → Text

@@ -1,5 +1,6 @@
 // Why a call is turned down: document 01's rows 1 to 13.
 ghost use mathlib.Core.Path.{_≡_};
+ghost use mathlib.Core.Bool.{cond};
 ghost use Rattle.refusal.specs.Refusals.{refusalNumber, refusalWord, textOf};
 
 pub enum Refusal {
@@ -76,4 +77,11 @@ pub fn word(r: Refusal) -> Text
         letters,
         len: LENGTHS[n],
     }
+}
+
+// A row before the others: its refusal where it applies, else theirs.
+pub fn first(applies: bool, refusal: Refusal, other: Refusal) -> Refusal
+    ensures { λ r. ⌜ r ≡ cond applies refusal other ⌝ }
+{
+    if applies { refusal } else { other }
 }

@@ -1,13 +1,17 @@
 -- Lists that grow at their end, read by index, and the sizes of their elements.
 use Prim.Native.Nat.{ℕ, zero, suc, _+_, _*_, _<_, _≤_, zero-le}
 use mathlib.Core.Path.{_≡_, refl, sym, ap, _∙_}
+use mathlib.Core.Bool.{Bool, true, false}
 use mathlib.Core.List.{List, [], _∷_, _++_, map}
 use native.Mathlib.Omega.{arith}
-use native.Mathlib.Nat.{le-of-suc-le-suc, not-suc-le-zero, mul-suc}
-use lib.ListN.{length, getD, set, drop}
-use lib.Seq.{drop-cons, set-at, append-snoc}
+use native.Mathlib.Nat.{le-of-suc-le-suc, le-antisymm, not-suc-le-zero, mul-suc}
+use borrow.Author.Tests.{ltb-true, ltb-false}
+use lib.Dec.{ltb}
+use lib.ListN.{length, getD, set, drop, List·getD-append}
+use lib.Seq.{drop-cons, set-at, append-snoc, getD-at, ext-getD}
 use lib.IntN.{ℤ, pos, natAbs}
 use Rattle.word.specs.Size.{sizeAt, sizes, Bounded}
+use Rattle.word.specs.Tabulate.{tabulate}
 
 -- a bound on an element, after one more
 pub snoc-le : (xs : List ℤ) (x : ℤ) (k W : ℕ) → sizeAt xs k ≤ W → natAbs x ≤ W → sizeAt (xs ++ x ∷ []) k ≤ W
@@ -64,3 +68,42 @@ pub sizes-le : (a : List ℤ) (j M : ℕ) → Bounded M a → sizes a j ≤ M * 
 unfolding sizes
 sizes-le a zero M h = omega arith
 sizes-le a (suc j) M h = omega (arith, sizes-le a j M h, h j, mul-suc M j)
+
+-- ---- a list by its elements
+pub length-tabulate : (n : ℕ) (f : ℕ → ℤ) → length (tabulate n f) ≡ n
+unfolding tabulate
+length-tabulate zero f = refl
+length-tabulate (suc n) f = length-snoc (tabulate n f) (f n) ∙ ap suc (length-tabulate n f)
+
+pub getD-tabulate : (n : ℕ) (f : ℕ → ℤ) (i : ℕ) → i < n → getD (tabulate n f) i (pos 0) ≡ f i
+unfolding tabulate
+getD-tabulate zero f i h = absurd (not-suc-le-zero h)
+getD-tabulate (suc n) f i h = go (ltb i n) refl (getD-tabulate n f i)
+  where
+    go : (t : Bool) → ltb i n ≡ t → (i < n → getD (tabulate n f) i (pos 0) ≡ f i) → getD (tabulate n f ++ f n ∷ []) i (pos 0) ≡ f i
+    go true e ih =
+        let k = ltb-true i n e in
+        List·getD-append (tabulate n f) (f n ∷ []) (pos 0) i (rw (length-tabulate n f) k) ∙ ih k
+    go false e ih =
+        let k : i ≡ n = le-antisymm (le-of-suc-le-suc h) (ltb-false i n e) in
+        rw (k) (getD-at (tabulate n f) (f n) [] (pos 0) n (length-tabulate n f))
+
+-- a loop that fills a list from the front makes the table
+pub tabulate-more : (d : List ℤ) (f : ℕ → ℤ) (i : ℕ) → i < length d → set (tabulate i f ++ drop i d) i (f i) ≡ tabulate (suc i) f ++ drop (suc i) d
+unfolding tabulate
+tabulate-more d f i h = grow (tabulate i f) d i (f i) (length-tabulate i f) h
+
+-- equal elements make equal tables
+pub tabulate-cong : (n : ℕ) (f g : ℕ → ℤ) → ((i : ℕ) → i < n → f i ≡ g i) → tabulate n f ≡ tabulate n g
+unfolding tabulate
+tabulate-cong zero f g h = refl
+tabulate-cong (suc n) f g h =
+    let a = tabulate-cong n f g (λ i k. h i (omega arith)) in
+    let b = h n (omega arith) in
+    cc
+
+-- a list is the table of its elements
+pub tabulate-getD : (xs : List ℤ) → tabulate (length xs) (λ i. getD xs i (pos 0)) ≡ xs
+tabulate-getD xs =
+    ext-getD (pos 0) (tabulate (length xs) (λ i. getD xs i (pos 0))) xs (length-tabulate (length xs) (λ i. getD xs i (pos 0)))
+    (λ i h. getD-tabulate (length xs) (λ i. getD xs i (pos 0)) i (rw (sym (length-tabulate (length xs) (λ i. getD xs i (pos 0)))) h))

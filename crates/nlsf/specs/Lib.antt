@@ -1,0 +1,6 @@
+-- The definitions that the contracts cite.
+pub mod Table
+pub mod Lines
+pub mod Expand
+pub mod Fit
+pub mod Filter

@@ -1,0 +1,11 @@
+use Rattle.refusal.proofs.first.Statement.{statement}
+use Rattle.refusal.proofs.first.Tie as tie
+
+returns : tie.Need-returns
+returns c = rw (c .if1 .taken)
+
+returns-2 : tie.Need-returns-2
+returns-2 c = rw (c .if1 .left)
+
+pub first-spec : {M : Type 1} → statement M
+first-spec = tie.close (tie.spec returns returns-2)

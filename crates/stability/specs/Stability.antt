@@ -1,0 +1,136 @@
+-- The stability test of a short-term filter (document 01, "A lost frame"; RFC 6716, 4.2.7.5.8; lpc_analysis.rs).
+use Prim.Native.Nat.{ℕ, zero, suc, _+_, _-_, _^_}
+use mathlib.Core.Bool.{Bool, true, cond, _&&_, _||_}
+use mathlib.Core.List.{List, [], _∷_, map}
+use lib.Dec.{ltb}
+use lib.IntN.{ℤ, pos, natAbs, negℤ, _+ℤ_, _-ℤ_, _*ℤ_}
+use lib.ListN.{getD, length, take}
+use lib.Signed.{ltZ, leZ}
+use Rattle.word.specs.Int.{eqℤ, wrap32}
+use Rattle.word.specs.Tabulate.{tabulate}
+use Rattle.macros.specs.Fixed.{smmul, clz32, rshiftRound64}
+use Rattle.macros.specs.Quotient.{inverse32VarQ}
+use Rattle.refusal.specs.declared.Refusal.the-variants.{Nothing, Order}
+use Rattle.stability.specs.declared.InverseGain.{InverseGain}
+
+-- why a filter has no inverse gain; k is the place of the step's coefficient, from 0
+pub data Instability : Type 0 where
+  sum : Instability
+  coefficient : (k : ℕ) → Instability
+  gain : (k : ℕ) → Instability
+  overflow : (k : ℕ) → Instability
+
+-- a filter's inverse gain (Q30), or why there is none
+pub data Stability : Type 0 where
+  stable : ℤ → Stability
+  unstable : Instability → Stability
+
+-- what a step beyond 32 bits does: RFC 6716 as first published keeps the low 32 and goes on, RFC 8251 ends the test
+pub data Edition : Type 0 where
+  rfc6716 : Edition
+  rfc8251 : Edition
+
+-- the largest size of a step's coefficient (Q24); RFC 6716 has 16,773,022
+unfoldable pub aLimit : ℕ
+aLimit = 16773043
+
+-- the reflection coefficient (Q31) of a step's coefficient a (Q24)
+unfoldable pub reflection : ℤ → ℤ
+reflection a = wrap32 (negℤ (a *ℤ pos (2 ^ 7)))
+
+-- 1 less the square of a reflection coefficient (Q30)
+unfoldable pub rcMult1 : ℤ → ℤ
+rcMult1 rc = wrap32 (pos (2 ^ 30) -ℤ smmul rc rc)
+
+-- the gain g (Q30) after a step
+unfoldable pub nextGain : ℤ → ℤ → ℤ
+nextGain rc g = wrap32 (smmul g (rcMult1 rc) *ℤ pos (2 ^ 2))
+
+-- how many bits a number of 32 has without its sign
+unfoldable pub bitLength : ℤ → ℕ
+bitLength m = 32 - clz32 (wrap32 (pos (natAbs m)))
+
+-- a product rounded by q places
+unfoldable pub mulQ : ℤ → ℤ → ℤ → ℤ
+mulQ a b q = wrap32 (rshiftRound64 (a *ℤ b) q)
+
+-- the inverse of m (Q30), with as many more places as m has bits
+unfoldable pub rcMult2 : ℤ → ℤ
+rcMult2 m = inverse32VarQ m (pos (bitLength m + 30))
+
+-- a coefficient x after a step, from itself and another, y: the difference wraps
+unfoldable pub stepDown : ℤ → ℤ → ℤ → ℤ → ℤ → ℤ
+stepDown rc mult2 q x y = rshiftRound64 (wrap32 (x -ℤ mulQ y rc (pos 31)) *ℤ mult2) q
+
+-- the coefficients below place k after a step: each with the one as far from the other end
+unfoldable pub stepped : ℤ → ℤ → ℤ → List ℤ → ℕ → List ℤ
+stepped rc mult2 q a k = tabulate k (λ n. stepDown rc mult2 q (getD a n (pos 0)) (getD a (k - 1 - n) (pos 0)))
+
+-- those after the step at place k
+unfoldable pub nextCoefficients : List ℤ → ℕ → List ℤ
+nextCoefficients a k =
+    let rc = reflection (getD a k (pos 0)) in
+    let m = rcMult1 rc in
+    stepped rc (rcMult2 m) (pos (bitLength m)) a k
+
+-- z is a number of 32 bits
+unfoldable pub fits32 : ℤ → Bool
+fits32 z = eqℤ (wrap32 z) z
+
+-- all numbers of a list are of 32 bits
+unfoldable pub allFit : List ℤ → Bool
+allFit [] = true
+allFit (x ∷ xs) = fits32 x && allFit xs
+
+-- the test goes on with the coefficients after a step
+unfoldable pub goesOn : Edition → List ℤ → Bool
+goesOn rfc6716 xs = true
+goesOn rfc8251 xs = allFit xs
+
+-- the two tests of a step at place k: its coefficient's size, then the gain after it
+unfoldable pub step : ℕ → ℤ → ℤ → ℕ → Stability
+step limit a g k =
+    cond (ltb limit (natAbs a)) (unstable (coefficient k))
+    (cond (ltZ (nextGain (reflection a) g) (pos 107374)) (unstable (gain k)) (stable (nextGain (reflection a) g)))
+
+-- what follows a step whose tests passed
+unfoldable pub andThen : Stability → (ℤ → Stability) → Stability
+andThen (stable g) f = f g
+andThen (unstable i) f = unstable i
+
+-- the steps at the places k to 0, from coefficients a (Q24) and gain g
+unfoldable pub steps : ℕ → Edition → List ℤ → ℤ → ℕ → Stability
+steps limit e a g zero = step limit (getD a 0 (pos 0)) g 0
+steps limit e a g (suc k) =
+    andThen (step limit (getD a (suc k) (pos 0)) g (suc k))
+    (λ h. cond (goesOn e (nextCoefficients a (suc k))) (steps limit e (map wrap32 (nextCoefficients a (suc k))) h k) (unstable (overflow (suc k))))
+
+-- the first n numbers of a list, added up
+unfoldable pub total : List ℤ → ℕ → ℤ
+total a zero = pos 0
+total a (suc n) = total a n +ℤ getD a n (pos 0)
+
+-- the whole test of coefficients a (Q12)
+unfoldable pub stabilityBy : ℕ → Edition → List ℤ → Stability
+stabilityBy limit e a =
+    cond (leZ (pos 4096) (total a (length a))) (unstable sum)
+    (steps limit e (map (λ x. x *ℤ pos (2 ^ 12)) a) (pos (2 ^ 30)) (length a - 1))
+
+-- the test with the crate's limit and RFC 8251's end
+unfoldable pub stability : List ℤ → Stability
+stability a = stabilityBy aLimit rfc8251 a
+
+-- the inverse gain as a number, 0 if there is none
+unfoldable pub inverseGain : Stability → ℤ
+inverseGain (stable g) = g
+inverseGain (unstable i) = pos 0
+
+-- row 13: an order d not 1 to 16, or a slice shorter than it
+abbrev pub orderRefused : List ℤ → ℕ → Bool
+orderRefused a d = ltb d 1 || ltb 16 d || ltb (length a) d
+
+-- the stability test as a call, of the first d coefficients
+unfoldable pub inversePredGainOf : List ℤ → ℕ → InverseGain
+inversePredGainOf a d =
+    cond (orderRefused a d) (record { refusal = Order; «inv_gain_q30» = pos 0 })
+    (record { refusal = Nothing; «inv_gain_q30» = inverseGain (stability (take d a)) })
