@@ -9,3 +9,4 @@ pub mod Energies
 pub mod Predict
 pub mod Filter
 pub mod InPlace
+pub mod Frames

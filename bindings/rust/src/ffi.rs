@@ -1,0 +1,128 @@
+//! The linked functions, on slices.
+
+use crate::Params;
+
+pub const WORDS: usize = 696;
+pub const HALVES: usize = 535;
+pub const CONTROL: usize = 9;
+pub const TAPS: usize = 20;
+pub const ROWS: usize = 32;
+pub const LINES: usize = 16;
+
+unsafe extern "C" {
+    fn post_set_up(rate: i32, subframes: i32, words: *mut i32, words_len: usize, halves: *mut i16, halves_len: usize) -> i32;
+    fn post_received(
+        words: *mut i32, words_len: usize, halves: *mut i16, halves_len: usize, signal: i8, offset: i8, interpolation: i8, seed: i8,
+        control: *mut i32, control_len: usize, taps: *mut i16, taps_len: usize, rows: *const i16, rows_len: usize,
+        lines: *const i16, lines_len: usize, pulses: *const i16, pulses_len: usize, output: *mut i16, output_len: usize,
+    ) -> i32;
+    fn post_lost(
+        words: *mut i32, words_len: usize, halves: *mut i16, halves_len: usize,
+        control: *mut i32, control_len: usize, taps: *mut i16, taps_len: usize, output: *mut i16, output_len: usize,
+    ) -> i32;
+    fn post_core(
+        words: *mut i32, words_len: usize, halves: *mut i16, halves_len: usize, signal: i8, offset: i8, interpolation: i8, seed: i8,
+        control: *mut i32, control_len: usize, taps: *mut i16, taps_len: usize, rows: *const i16, rows_len: usize,
+        pulses: *const i16, pulses_len: usize, output: *mut i16, output_len: usize,
+    ) -> i32;
+    fn post_plc_received(
+        words: *mut i32, words_len: usize, halves: *mut i16, halves_len: usize, signal: i8, offset: i8, interpolation: i8,
+        control: *mut i32, control_len: usize, taps: *mut i16, taps_len: usize, rows: *const i16, rows_len: usize,
+    ) -> i32;
+    fn post_plc_lost(
+        words: *mut i32, words_len: usize, halves: *mut i16, halves_len: usize,
+        control: *mut i32, control_len: usize, taps: *mut i16, taps_len: usize, output: *mut i16, output_len: usize,
+    ) -> i32;
+    fn post_glue(words: *mut i32, words_len: usize, halves: *mut i16, halves_len: usize, buffer: *mut i16, buffer_len: usize, length: usize) -> i32;
+    fn post_noise(
+        words: *mut i32, words_len: usize, halves: *mut i16, halves_len: usize,
+        control: *const i32, control_len: usize, taps: *const i16, taps_len: usize, buffer: *mut i16, buffer_len: usize, length: usize,
+    ) -> i32;
+    fn post_played(rate: i32, subframes: i32, output: *mut i16, output_len: usize) -> i32;
+    fn post_stability(coefficients: *const i16, coefficients_len: usize, order: usize, result: *mut i32, result_len: usize) -> i32;
+    fn post_filter(coefficients: *mut i16, coefficients_len: usize, lines: *const i16, lines_len: usize, order: usize) -> i32;
+}
+
+// In each function a slice is lent for the call alone, with its own length.
+
+pub fn set_up(rate: i32, subframes: i32, words: &mut [i32], halves: &mut [i16]) -> i32 {
+    unsafe { post_set_up(rate, subframes, words.as_mut_ptr(), words.len(), halves.as_mut_ptr(), halves.len()) }
+}
+
+#[allow(clippy::too_many_arguments)]
+pub fn received(
+    words: &mut [i32], halves: &mut [i16], q: Params, control: &mut [i32], taps: &mut [i16], rows: &[i16], lines: &[i16], pulses: &[i16], output: &mut [i16],
+) -> i32 {
+    unsafe {
+        post_received(
+            words.as_mut_ptr(), words.len(), halves.as_mut_ptr(), halves.len(), q.signal_type, q.quant_offset_type, q.nlsf_interp_coef_q2, q.seed,
+            control.as_mut_ptr(), control.len(), taps.as_mut_ptr(), taps.len(), rows.as_ptr(), rows.len(),
+            lines.as_ptr(), lines.len(), pulses.as_ptr(), pulses.len(), output.as_mut_ptr(), output.len(),
+        )
+    }
+}
+
+pub fn lost(words: &mut [i32], halves: &mut [i16], control: &mut [i32], taps: &mut [i16], output: &mut [i16]) -> i32 {
+    unsafe {
+        post_lost(
+            words.as_mut_ptr(), words.len(), halves.as_mut_ptr(), halves.len(),
+            control.as_mut_ptr(), control.len(), taps.as_mut_ptr(), taps.len(), output.as_mut_ptr(), output.len(),
+        )
+    }
+}
+
+#[allow(clippy::too_many_arguments)]
+pub fn core(
+    words: &mut [i32], halves: &mut [i16], q: Params, control: &mut [i32], taps: &mut [i16], rows: &[i16], pulses: &[i16], output: &mut [i16],
+) -> i32 {
+    unsafe {
+        post_core(
+            words.as_mut_ptr(), words.len(), halves.as_mut_ptr(), halves.len(), q.signal_type, q.quant_offset_type, q.nlsf_interp_coef_q2, q.seed,
+            control.as_mut_ptr(), control.len(), taps.as_mut_ptr(), taps.len(), rows.as_ptr(), rows.len(),
+            pulses.as_ptr(), pulses.len(), output.as_mut_ptr(), output.len(),
+        )
+    }
+}
+
+pub fn plc_received(words: &mut [i32], halves: &mut [i16], q: Params, control: &mut [i32], taps: &mut [i16], rows: &[i16]) -> i32 {
+    unsafe {
+        post_plc_received(
+            words.as_mut_ptr(), words.len(), halves.as_mut_ptr(), halves.len(), q.signal_type, q.quant_offset_type, q.nlsf_interp_coef_q2,
+            control.as_mut_ptr(), control.len(), taps.as_mut_ptr(), taps.len(), rows.as_ptr(), rows.len(),
+        )
+    }
+}
+
+pub fn plc_lost(words: &mut [i32], halves: &mut [i16], control: &mut [i32], taps: &mut [i16], output: &mut [i16]) -> i32 {
+    unsafe {
+        post_plc_lost(
+            words.as_mut_ptr(), words.len(), halves.as_mut_ptr(), halves.len(),
+            control.as_mut_ptr(), control.len(), taps.as_mut_ptr(), taps.len(), output.as_mut_ptr(), output.len(),
+        )
+    }
+}
+
+pub fn glue(words: &mut [i32], halves: &mut [i16], buffer: &mut [i16], length: usize) -> i32 {
+    unsafe { post_glue(words.as_mut_ptr(), words.len(), halves.as_mut_ptr(), halves.len(), buffer.as_mut_ptr(), buffer.len(), length) }
+}
+
+pub fn noise(words: &mut [i32], halves: &mut [i16], control: &[i32], taps: &[i16], buffer: &mut [i16], length: usize) -> i32 {
+    unsafe {
+        post_noise(
+            words.as_mut_ptr(), words.len(), halves.as_mut_ptr(), halves.len(),
+            control.as_ptr(), control.len(), taps.as_ptr(), taps.len(), buffer.as_mut_ptr(), buffer.len(), length,
+        )
+    }
+}
+
+pub fn played(rate: i32, subframes: i32, output: &mut [i16]) -> i32 {
+    unsafe { post_played(rate, subframes, output.as_mut_ptr(), output.len()) }
+}
+
+pub fn stability(coefficients: &[i16], order: usize, result: &mut [i32]) -> i32 {
+    unsafe { post_stability(coefficients.as_ptr(), coefficients.len(), order, result.as_mut_ptr(), result.len()) }
+}
+
+pub fn filter(coefficients: &mut [i16], lines: &[i16], order: usize) -> i32 {
+    unsafe { post_filter(coefficients.as_mut_ptr(), coefficients.len(), lines.as_ptr(), lines.len(), order) }
+}

@@ -1,0 +1,236 @@
+//! The yard post's SILK back end: parameters of a frame in, samples out.
+//!
+//! [`Post`] owns a decoder's state. A frame is played by [`Post::received`] or [`Post::lost`]; one that the
+//! back end turns down leaves the state, the description and the output as they were.
+//!
+//! ```no_run
+//! use post::{Description, Params, Post};
+//!
+//! let mut post = Post::set_up(16, 4)?;
+//! let mut output = [0i16; 320];
+//! let mut description = Description { gains_q16: [81_920; 4], ..Description::default() };
+//! let pulses = [0i16; 320];
+//! post.received(Params::default(), &mut description, &pulses, &mut output)?;
+//! post.lost(&mut description, &mut output)?;
+//! # Ok::<(), post::Refusal>(())
+//! ```
+
+pub mod ffi;
+
+use std::fmt;
+
+/// Why a call was turned down.
+#[derive(Clone, Copy, PartialEq, Eq, Debug)]
+#[repr(i32)]
+pub enum Refusal {
+    Rate = 1,
+    Size = 2,
+    History = 3,
+    RunFull = 4,
+    Signal = 5,
+    Gain = 6,
+    Lag = 7,
+    Taps = 8,
+    Line = 9,
+    Pulses = 10,
+    Speaker = 11,
+    Length = 12,
+    Order = 13,
+}
+
+impl Refusal {
+    pub const ALL: [Refusal; 13] = [
+        Refusal::Rate,
+        Refusal::Size,
+        Refusal::History,
+        Refusal::RunFull,
+        Refusal::Signal,
+        Refusal::Gain,
+        Refusal::Lag,
+        Refusal::Taps,
+        Refusal::Line,
+        Refusal::Pulses,
+        Refusal::Speaker,
+        Refusal::Length,
+        Refusal::Order,
+    ];
+
+    pub fn number(self) -> i32 {
+        self as i32
+    }
+
+    pub fn word(self) -> &'static str {
+        match self {
+            Refusal::Rate => "rate",
+            Refusal::Size => "size",
+            Refusal::History => "history",
+            Refusal::RunFull => "run full",
+            Refusal::Signal => "signal",
+            Refusal::Gain => "gain",
+            Refusal::Lag => "lag",
+            Refusal::Taps => "taps",
+            Refusal::Line => "line",
+            Refusal::Pulses => "pulses",
+            Refusal::Speaker => "speaker",
+            Refusal::Length => "length",
+            Refusal::Order => "order",
+        }
+    }
+}
+
+impl fmt::Display for Refusal {
+    fn fmt(&self, f: &mut fmt::Formatter) -> fmt::Result {
+        write!(f, "{} ({})", self.word(), self.number())
+    }
+}
+
+impl std::error::Error for Refusal {}
+
+/// An answer of the library. Its slices always have their sizes here, so -1 cannot come.
+fn answered(number: i32) -> Result<(), Refusal> {
+    if number == 0 {
+        return Ok(());
+    }
+    Err(Refusal::ALL[usize::try_from(number - 1).expect("a slice is too short")])
+}
+
+/// The small numbers of a received frame.
+#[derive(Clone, Copy, Default, Debug)]
+pub struct Params {
+    /// 0 no voice activity, 1 unvoiced, 2 voiced.
+    pub signal_type: i8,
+    pub quant_offset_type: i8,
+    pub nlsf_interp_coef_q2: i8,
+    pub seed: i8,
+}
+
+/// A frame's description. The back end may change lags and taps.
+#[derive(Clone, Default, Debug)]
+pub struct Description {
+    pub pitch_l: [i32; 4],
+    pub gains_q16: [i32; 4],
+    pub ltp_scale_q14: i32,
+    pub ltp_coef_q14: [i16; 20],
+    /// The two coefficient rows of a received frame.
+    pub pred_coef_q12: [[i16; 16]; 2],
+    /// The line frequencies of a received frame.
+    pub nlsf_q15: [i16; 16],
+}
+
+impl Description {
+    fn control(&self) -> [i32; ffi::CONTROL] {
+        let mut control = [0; ffi::CONTROL];
+        control[..4].copy_from_slice(&self.pitch_l);
+        control[4..8].copy_from_slice(&self.gains_q16);
+        control[8] = self.ltp_scale_q14;
+        control
+    }
+
+    fn rows(&self) -> [i16; ffi::ROWS] {
+        let mut rows = [0; ffi::ROWS];
+        rows[..16].copy_from_slice(&self.pred_coef_q12[0]);
+        rows[16..].copy_from_slice(&self.pred_coef_q12[1]);
+        rows
+    }
+
+    fn take(&mut self, control: &[i32; ffi::CONTROL]) {
+        self.pitch_l.copy_from_slice(&control[..4]);
+        self.gains_q16.copy_from_slice(&control[4..8]);
+        self.ltp_scale_q14 = control[8];
+    }
+}
+
+/// A decoder's state.
+#[derive(Clone, PartialEq, Eq)]
+pub struct Post {
+    words: [i32; ffi::WORDS],
+    halves: [i16; ffi::HALVES],
+}
+
+impl Post {
+    /// A post for 8, 12 or 16 kHz and 2 or 4 subframes.
+    pub fn set_up(rate: i32, subframes: i32) -> Result<Post, Refusal> {
+        let mut post = Post { words: [0; ffi::WORDS], halves: [0; ffi::HALVES] };
+        answered(ffi::set_up(rate, subframes, &mut post.words, &mut post.halves))?;
+        Ok(post)
+    }
+
+    /// A post from numbers that [`Post::parts`] gave; a state that no post can have is refused at its first call.
+    pub fn from_parts(words: [i32; ffi::WORDS], halves: [i16; ffi::HALVES]) -> Post {
+        Post { words, halves }
+    }
+
+    pub fn parts(&self) -> (&[i32; ffi::WORDS], &[i16; ffi::HALVES]) {
+        (&self.words, &self.halves)
+    }
+
+    /// Plays a received frame into the first samples of `output`.
+    pub fn received(&mut self, params: Params, description: &mut Description, pulses: &[i16], output: &mut [i16]) -> Result<(), Refusal> {
+        let mut control = description.control();
+        let rows = description.rows();
+        let lines = description.nlsf_q15;
+        answered(ffi::received(&mut self.words, &mut self.halves, params, &mut control, &mut description.ltp_coef_q14, &rows, &lines, pulses, output))?;
+        description.take(&control);
+        Ok(())
+    }
+
+    /// Conceals a lost frame; the four lags of the description become the last one.
+    pub fn lost(&mut self, description: &mut Description, output: &mut [i16]) -> Result<(), Refusal> {
+        let mut control = description.control();
+        answered(ffi::lost(&mut self.words, &mut self.halves, &mut control, &mut description.ltp_coef_q14, output))?;
+        description.take(&control);
+        Ok(())
+    }
+
+    /// The core of a received frame alone.
+    pub fn core(&mut self, params: Params, description: &mut Description, pulses: &[i16], output: &mut [i16]) -> Result<(), Refusal> {
+        let mut control = description.control();
+        let rows = description.rows();
+        answered(ffi::core(&mut self.words, &mut self.halves, params, &mut control, &mut description.ltp_coef_q14, &rows, pulses, output))?;
+        description.take(&control);
+        Ok(())
+    }
+
+    /// What concealment keeps of a received frame, alone.
+    pub fn plc_received(&mut self, params: Params, description: &mut Description) -> Result<(), Refusal> {
+        let mut control = description.control();
+        let rows = description.rows();
+        answered(ffi::plc_received(&mut self.words, &mut self.halves, params, &mut control, &mut description.ltp_coef_q14, &rows))
+    }
+
+    /// Concealment of a lost frame alone.
+    pub fn plc_lost(&mut self, description: &mut Description, output: &mut [i16]) -> Result<(), Refusal> {
+        let mut control = description.control();
+        answered(ffi::plc_lost(&mut self.words, &mut self.halves, &mut control, &mut description.ltp_coef_q14, output))?;
+        description.take(&control);
+        Ok(())
+    }
+
+    /// Gluing of the first `length` samples alone.
+    pub fn glue(&mut self, buffer: &mut [i16], length: usize) -> Result<(), Refusal> {
+        answered(ffi::glue(&mut self.words, &mut self.halves, buffer, length))
+    }
+
+    /// Comfort noise on the first `length` samples alone.
+    pub fn noise(&mut self, description: &Description, buffer: &mut [i16], length: usize) -> Result<(), Refusal> {
+        answered(ffi::noise(&mut self.words, &mut self.halves, &description.control(), &description.ltp_coef_q14, buffer, length))
+    }
+}
+
+/// The part of an output that a frame of this shape fills, empty for no shape or a short output.
+pub fn played(rate: i32, subframes: i32, output: &mut [i16]) -> &mut [i16] {
+    let count = ffi::played(rate, subframes, output);
+    &mut output[..count as usize]
+}
+
+/// The inverse gain (Q30) of a filter's first `order` coefficients (Q12), 0 if it is not stable.
+pub fn stability(coefficients: &[i16], order: usize) -> Result<i32, Refusal> {
+    let mut result = [0];
+    answered(ffi::stability(coefficients, order, &mut result))?;
+    Ok(result[0])
+}
+
+/// The first `order` coefficients (Q12) of a filter from line frequencies (Q15).
+pub fn filter(coefficients: &mut [i16], lines: &[i16], order: usize) -> Result<(), Refusal> {
+    answered(ffi::filter(coefficients, lines, order))
+}

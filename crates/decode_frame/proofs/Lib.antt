@@ -1,0 +1,5 @@
+-- The laws that other proofs cite.
+pub mod Finishing
+pub mod Kept
+pub mod Noised
+pub mod Bench

@@ -1,0 +1,36 @@
+-- The whole frame as a public call.
+use mathlib.Core.List.{List, _++_}
+use lib.IntN.{ℤ}
+use lib.ListN.{length, drop}
+use Rattle.refusal.specs.First.{firstOf}
+use Rattle.refusal.specs.Refusals.{ifAccepted}
+use Rattle.refusal.specs.declared.Refusal.{Refusal}
+use Rattle.shape.specs.Shape.{frameLength}
+use Rattle.decoder.specs.State.{shapeOf}
+use Rattle.decoder.specs.Outcome.{Outcome}
+use Rattle.decoder.specs.declared.SilkDecoderState.{SilkDecoderState}
+use Rattle.decoder.specs.declared.SilkDecoderControl.{SilkDecoderControl}
+use Rattle.decoder.specs.declared.Frame.{Frame}
+use Rattle.judge.specs.Rows.{frameRows}
+use Rattle.decode_frame.specs.WholeFrame.{wholeFrame}
+use Rattle.decode_frame.specs.declared.FrameAnswer.{FrameAnswer}
+
+module _ (s : SilkDecoderState) (f : Frame) (c : SilkDecoderControl) (rows : List (List ℤ)) (lines pulses output : List ℤ) where
+  unfoldable pub frameRefusal : Refusal
+  frameRefusal = firstOf (frameRows s f c lines (length pulses) (length output))
+
+  abbrev pub frameOutcome : Outcome
+  frameOutcome = wholeFrame (shapeOf s) s f c rows lines pulses
+
+  -- the new state and description, or those lent
+  unfoldable pub frameAnswer : FrameAnswer
+  frameAnswer =
+      record {
+        refusal = frameRefusal;
+        state = ifAccepted frameRefusal (frameOutcome .state) s;
+        control = ifAccepted frameRefusal (frameOutcome .control) c;
+      }
+
+  -- the samples and the rest of what was lent, or all of it
+  unfoldable pub frameOutput : List ℤ
+  frameOutput = ifAccepted frameRefusal (frameOutcome .samples ++ drop (frameLength (shapeOf s)) output) output

@@ -1,0 +1,7 @@
+-- Laws that other proofs cite.
+pub mod Tests
+pub mod Between
+pub mod Bounds
+pub mod Types
+pub mod SetUps
+pub mod Built

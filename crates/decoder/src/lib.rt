@@ -1,0 +1,453 @@
+// The decoder's state and frame description (decoder_structs.rs, define.rs), set-up, and the played part of the output.
+use refusal::Refusal;
+use shape::Rate;
+use word::mul32;
+use word::wide16;
+ghost use mathlib.Core.Path.{_≡_};
+ghost use mathlib.Core.Bool.{_&&_, _||_};
+ghost use Prim.Native.Nat.{_<_, _≤_};
+ghost use lib.IntN.{pos};
+ghost use lib.ListN.{length, take, replicate};
+ghost use Rattle.word.specs.Int.{eqℤ};
+ghost use Rattle.shape.specs.Shape.{rateOf, shape};
+ghost use Rattle.decoder.specs.Signals.{signalNumber, signalOf, isType, isVoiced};
+ghost use Rattle.decoder.specs.Ranges.{within, allWithin, onlyIf, isLag, linesFit, decoderFits, tapsHeld, subframesHeld, plcHeld, plcFits, cngFits};
+ghost use Rattle.decoder.specs.Rows.{rateRow, sizeRow, historyRow};
+ghost use Rattle.decoder.specs.SetUp.{cngDefault, plcDefault, stateFrom, setUpRefusal, setUp};
+ghost use Rattle.decoder.specs.Played.{playedLength};
+
+// Comfort noise's part of the state.
+pub struct SilkCNGState {
+    pub cng_exc_buf_q14: [i32; 320],
+    pub cng_smth_nlsf_q15: [i16; 16],
+    pub cng_synth_state: [i32; 16],
+    pub cng_smth_gain_q16: i32,
+    pub rand_seed: i32,
+    pub fs_khz: i32,
+}
+
+// Concealment's part of the state.
+pub struct SilkPLCState {
+    pub pitch_l_q8: i32,
+    pub ltp_coef_q14: [i16; 5],
+    pub prev_lpc_q12: [i16; 16],
+    pub last_frame_lost: i32,
+    pub rand_seed: i32,
+    pub rand_scale_q14: i16,
+    pub conc_energy: i32,
+    pub conc_energy_shift: i32,
+    pub prev_ltp_scale_q14: i16,
+    pub prev_gain_q16: [i32; 2],
+    pub fs_khz: i32,
+    pub nb_subfr: i32,
+    pub subfr_length: i32,
+}
+
+pub struct SilkDecoderState {
+    pub prev_gain_q16: i32,
+    pub exc_q14: [i32; 320],
+    pub s_lpc_q14_buf: [i32; 16],
+    pub out_buf: [i16; 480],
+    pub lag_prev: i32,
+    pub fs_khz: i32,
+    pub nb_subfr: i32,
+    pub frame_length: i32,
+    pub subfr_length: i32,
+    pub ltp_mem_length: i32,
+    pub lpc_order: i32,
+    pub prev_nlsf_q15: [i16; 16],
+    pub first_frame_after_reset: i32,
+    pub s_cng: SilkCNGState,
+    pub loss_cnt: i32,
+    pub prev_signal_type: i32,
+    pub s_plc: SilkPLCState,
+}
+
+// A frame's description: lags, gains, taps and LTP scale. Its two coefficient rows stand beside it.
+pub struct SilkDecoderControl {
+    pub pitch_l: [i32; 4],
+    pub gains_q16: [i32; 4],
+    pub ltp_coef_q14: [i16; 20],
+    pub ltp_scale_q14: i32,
+}
+
+// The signal type; Other is a number that is no type.
+pub enum Signal {
+    NoVoiceActivity,
+    Unvoiced,
+    Voiced,
+    Other(i8),
+}
+
+// The small numbers of a received frame.
+pub struct Params {
+    pub signal: Signal,
+    pub quant_offset_type: i8,
+    pub nlsf_interp_coef_q2: i8,
+    pub seed: i8,
+}
+
+pub enum Frame {
+    Received(Params),
+    Lost,
+}
+
+// The answer of set-up; refused, the default state with no shape.
+pub struct SetUp {
+    pub refusal: Refusal,
+    pub state: SilkDecoderState,
+}
+
+pub fn both(a: bool, b: bool) -> bool
+    ensures { λ r. ⌜ r ≡ (a && b) ⌝ }
+{
+    if a { b } else { false }
+}
+
+pub fn either(a: bool, b: bool) -> bool
+    ensures { λ r. ⌜ r ≡ (a || b) ⌝ }
+{
+    if a { true } else { b }
+}
+
+// b, where c holds.
+pub fn only_if(c: bool, b: bool) -> bool
+    ensures { λ r. ⌜ r ≡ onlyIf c b ⌝ }
+{
+    if c { b } else { true }
+}
+
+pub fn equals(z: i32, n: usize) -> bool
+    requires { ⌜ n < 2147483648 ⌝ }
+    ensures { λ r. ⌜ r ≡ eqℤ z (pos n) ⌝ }
+{
+    z == n as i32
+}
+
+pub fn within(low: i32, high: i32, z: i32) -> bool
+    ensures { λ r. ⌜ r ≡ within low high z ⌝ }
+{
+    both(low <= z, z <= high)
+}
+
+// The first n elements lie in low to high.
+pub fn all_within(low: i32, high: i32, xs: &[i32], n: usize) -> bool
+    requires { ⌜ n ≤ length (now xs) ⌝ }
+    ensures { λ r. ⌜ r ≡ allWithin low high (now (xs .entry)) n ⌝ }
+{
+    let mut ok = true;
+    for i in 0..n {
+        ok = both(ok, within(low, high, xs[i]));
+    }
+    ok
+}
+
+// The same in 16 bits.
+pub fn all_within16(low: i32, high: i32, xs: &[i16], n: usize) -> bool
+    requires { ⌜ n ≤ length (now xs) ⌝ }
+    ensures { λ r. ⌜ r ≡ allWithin low high (now (xs .entry)) n ⌝ }
+{
+    let mut ok = true;
+    for i in 0..n {
+        ok = both(ok, within(low, high, wide16(xs[i])));
+    }
+    ok
+}
+
+pub fn is_lag(khz: i32, z: i32) -> bool
+    ensures { λ r. ⌜ r ≡ isLag (rateOf khz) z ⌝ }
+{
+    within(Rate::lag_min(khz), Rate::lag_max(khz), z)
+}
+
+pub fn lines_fit(khz: i32, lines: &[i16; 16]) -> bool
+    ensures { λ r. ⌜ r ≡ linesFit (rateOf khz) (now (lines .entry)) ⌝ }
+{
+    all_within16(0, 32767, lines, Rate::lpc_order(khz))
+}
+
+fn taps_held(taps: &[i16; 5]) -> bool
+    ensures { λ r. ⌜ r ≡ tapsHeld (now (taps .entry)) ⌝ }
+{
+    let mut ok = equals(wide16(taps[0]), 0);
+    ok = both(ok, equals(wide16(taps[1]), 0));
+    ok = both(ok, within(-11456, 15565, wide16(taps[2])));
+    ok = both(ok, equals(wide16(taps[3]), 0));
+    both(ok, equals(wide16(taps[4]), 0))
+}
+
+fn subframes_held(khz: i32, n: i32, l: i32) -> bool
+    ensures { λ r. ⌜ r ≡ subframesHeld (rateOf khz) n l ⌝ }
+{
+    let few = both(equals(n, 2), equals(l, 20));
+    let counted = either(equals(n, 2), equals(n, 4));
+    either(few, both(counted, equals(l, Rate::subfr_length(khz))))
+}
+
+// What concealment holds for its own rate.
+fn plc_held(khz: i32, h: SilkPLCState) -> bool
+    ensures { λ r. ⌜ r ≡ plcHeld (rateOf khz) h ⌝ }
+{
+    let low = mul32(256, Rate::lag_min(khz));
+    let high = mul32(256, Rate::lag_max(khz));
+    let gains = h.prev_gain_q16;
+    let mut ok = within(low, high, h.pitch_l_q8);
+    ok = both(ok, all_within(65536, 1686110208, &gains, 2));
+    both(ok, subframes_held(khz, h.nb_subfr, h.subfr_length))
+}
+
+fn plc_fits(khz: i32, h: SilkPLCState) -> bool
+    ensures { λ r. ⌜ r ≡ plcFits (rateOf khz) h ⌝ }
+{
+    let taps = h.ltp_coef_q14;
+    let mut ok = within(0, 1, h.last_frame_lost);
+    ok = both(ok, taps_held(&taps));
+    ok = both(ok, within(0, 27840, wide16(h.rand_scale_q14)));
+    ok = both(ok, within(0, 16384, wide16(h.prev_ltp_scale_q14)));
+    ok = both(ok, 0 <= h.conc_energy);
+    ok = both(ok, within(0, 31, h.conc_energy_shift));
+    both(
+        ok,
+        only_if(equals(h.fs_khz, shape::rate_of(khz)), plc_held(khz, h)),
+    )
+}
+
+fn cng_fits(khz: i32, h: SilkCNGState) -> bool
+    ensures { λ r. ⌜ r ≡ cngFits (rateOf khz) h ⌝ }
+{
+    let lines = h.cng_smth_nlsf_q15;
+    let held = both(
+        lines_fit(khz, &lines),
+        within(0, 1686110208, h.cng_smth_gain_q16),
+    );
+    only_if(equals(h.fs_khz, shape::rate_of(khz)), held)
+}
+
+// The fields of the decoder's own.
+fn decoder_fits(s: SilkDecoderState) -> bool
+    ensures { λ r. ⌜ r ≡ decoderFits (rateOf (s .«fs_khz»)) s ⌝ }
+{
+    let khz = s.fs_khz;
+    let lines = s.prev_nlsf_q15;
+    let mut ok = 0 <= s.loss_cnt;
+    ok = both(ok, only_if(0 < s.loss_cnt, is_lag(khz, s.lag_prev)));
+    ok = both(ok, within(0, 2, s.prev_signal_type));
+    ok = both(ok, within(65536, 1686110208, s.prev_gain_q16));
+    ok = both(ok, within(0, 1, s.first_frame_after_reset));
+    both(ok, lines_fit(khz, &lines))
+}
+
+// Row 1.
+pub fn rate_row(s: SilkDecoderState) -> bool
+    ensures { λ r. ⌜ r ≡ rateRow s ⌝ }
+{
+    !shape::is_rate(s.fs_khz)
+}
+
+// Row 2.
+pub fn size_row(s: SilkDecoderState) -> bool
+    ensures { λ r. ⌜ r ≡ sizeRow s ⌝ }
+{
+    let khz = s.fs_khz;
+    let mut ok = shape::is_count(s.nb_subfr);
+    ok = both(
+        ok,
+        equals(s.frame_length, shape::frame_length(khz, s.nb_subfr)),
+    );
+    ok = both(ok, equals(s.subfr_length, Rate::subfr_length(khz)));
+    ok = both(ok, equals(s.ltp_mem_length, Rate::ltp_mem_length(khz)));
+    ok = both(ok, equals(s.lpc_order, Rate::lpc_order(khz)));
+    !ok
+}
+
+// Row 3.
+pub fn history_row(s: SilkDecoderState) -> bool
+    ensures { λ r. ⌜ r ≡ historyRow (rateOf (s .«fs_khz»)) s ⌝ }
+{
+    let khz = s.fs_khz;
+    let plc = s.s_plc;
+    let cng = s.s_cng;
+    !both(
+        both(decoder_fits(s), plc_fits(khz, plc)),
+        cng_fits(khz, cng),
+    )
+}
+
+pub fn signal_number(s: Signal) -> i8
+    ensures { λ r. ⌜ r ≡ signalNumber s ⌝ }
+{
+    match s {
+        Signal::NoVoiceActivity => 0,
+        Signal::Unvoiced => 1,
+        Signal::Voiced => 2,
+        Signal::Other(n) => n,
+    }
+}
+
+pub fn signal_of(n: i8) -> Signal
+    ensures { λ r. ⌜ r ≡ signalOf n ⌝ }
+{
+    match n {
+        0 => Signal::NoVoiceActivity,
+        1 => Signal::Unvoiced,
+        2 => Signal::Voiced,
+        _ => Signal::Other(n),
+    }
+}
+
+pub fn is_type(s: Signal) -> bool
+    ensures { λ r. ⌜ r ≡ isType s ⌝ }
+{
+    match s {
+        Signal::NoVoiceActivity => true,
+        Signal::Unvoiced => true,
+        Signal::Voiced => true,
+        Signal::Other(_) => false,
+    }
+}
+
+pub fn is_voiced(s: Signal) -> bool
+    ensures { λ r. ⌜ r ≡ isVoiced s ⌝ }
+{
+    match s {
+        Signal::NoVoiceActivity => false,
+        Signal::Unvoiced => false,
+        Signal::Voiced => true,
+        Signal::Other(_) => false,
+    }
+}
+
+fn zeros320() -> [i32; 320]
+    ensures { λ r. ⌜ r ≡ replicate 320 (pos 0) ⌝ }
+{
+    [0; 320]
+}
+
+fn zeros16() -> [i32; 16]
+    ensures { λ r. ⌜ r ≡ replicate 16 (pos 0) ⌝ }
+{
+    [0; 16]
+}
+
+fn samples480() -> [i16; 480]
+    ensures { λ r. ⌜ r ≡ replicate 480 (pos 0) ⌝ }
+{
+    [0; 480]
+}
+
+fn samples16() -> [i16; 16]
+    ensures { λ r. ⌜ r ≡ replicate 16 (pos 0) ⌝ }
+{
+    [0; 16]
+}
+
+fn cng_default() -> SilkCNGState
+    ensures { λ r. ⌜ r ≡ cngDefault ⌝ }
+{
+    let exc = zeros320();
+    let nlsf = samples16();
+    let synth = zeros16();
+    SilkCNGState {
+        cng_exc_buf_q14: exc,
+        cng_smth_nlsf_q15: nlsf,
+        cng_synth_state: synth,
+        cng_smth_gain_q16: 0,
+        rand_seed: 0,
+        fs_khz: 0,
+    }
+}
+
+fn plc_default() -> SilkPLCState
+    ensures { λ r. ⌜ r ≡ plcDefault ⌝ }
+{
+    let taps = [0i16; 5];
+    let lpc = samples16();
+    let gains = [0i32; 2];
+    SilkPLCState {
+        pitch_l_q8: 0,
+        ltp_coef_q14: taps,
+        prev_lpc_q12: lpc,
+        last_frame_lost: 0,
+        rand_seed: 0,
+        rand_scale_q14: 0,
+        conc_energy: 0,
+        conc_energy_shift: 0,
+        prev_ltp_scale_q14: 0,
+        prev_gain_q16: gains,
+        fs_khz: 0,
+        nb_subfr: 0,
+        subfr_length: 0,
+    }
+}
+
+fn length_number(n: usize) -> i32
+    requires { ⌜ n < 2147483648 ⌝ }
+    ensures { λ r. ⌜ r ≡ pos n ⌝ }
+{
+    n as i32
+}
+
+// The default state at a rate and a count of subframes.
+fn state_from(khz: i32, nb_subfr: i32) -> SilkDecoderState
+    ensures { λ r. ⌜ r ≡ stateFrom khz «nb_subfr» (shape khz «nb_subfr») ⌝ }
+{
+    let exc = zeros320();
+    let lpc = zeros16();
+    let out = samples480();
+    let nlsf = samples16();
+    let frame_length = length_number(shape::frame_length(khz, nb_subfr));
+    let subfr_length = length_number(Rate::subfr_length(khz));
+    let ltp_mem_length = length_number(Rate::ltp_mem_length(khz));
+    let lpc_order = length_number(Rate::lpc_order(khz));
+    let cng = cng_default();
+    let plc = plc_default();
+    SilkDecoderState {
+        prev_gain_q16: 65536,
+        exc_q14: exc,
+        s_lpc_q14_buf: lpc,
+        out_buf: out,
+        lag_prev: 100,
+        fs_khz: khz,
+        nb_subfr,
+        frame_length,
+        subfr_length,
+        ltp_mem_length,
+        lpc_order,
+        prev_nlsf_q15: nlsf,
+        first_frame_after_reset: 1,
+        s_cng: cng,
+        loss_cnt: 0,
+        prev_signal_type: 0,
+        s_plc: plc,
+    }
+}
+
+fn set_up_refusal(khz: i32, nb_subfr: i32) -> Refusal
+    ensures { λ r. ⌜ r ≡ setUpRefusal khz «nb_subfr» ⌝ }
+{
+    let size = refusal::first(!shape::is_count(nb_subfr), Refusal::Size, Refusal::Nothing);
+    refusal::first(!shape::is_rate(khz), Refusal::Rate, size)
+}
+
+pub fn set_up(fs_khz: i32, nb_subfr: i32) -> SetUp
+    ensures { λ r. ⌜ r ≡ setUp «fs_khz» «nb_subfr» ⌝ }
+{
+    let refusal = set_up_refusal(fs_khz, nb_subfr);
+    if refusal::number(refusal) != 0 {
+        let state = state_from(0, 0);
+        return SetUp { refusal, state };
+    }
+    let state = state_from(fs_khz, nb_subfr);
+    SetUp { refusal, state }
+}
+
+// The played samples of the output themselves; empty for a shape that is none or a short output.
+pub fn played(fs_khz: i32, nb_subfr: i32, output: &mut [i16]) -> &mut [i16]
+    ensures { λ r. ⌜ now r ≡ take (playedLength (shape «fs_khz» «nb_subfr») (length (now (output .entry)))) (now (output .entry)) ⌝ }
+{
+    let n = shape::frame_length(fs_khz, nb_subfr);
+    if n <= output.len() {
+        return &mut output[..n];
+    }
+    &mut output[..0]
+}

@@ -1,0 +1,4 @@
+-- The laws of this crate.
+pub mod Shifts
+pub mod Turn
+pub mod Glued

@@ -1,0 +1,5 @@
+-- What an accepted call's rows say, as plain bounds.
+pub mod Between
+pub mod Sums
+pub mod Bounds
+pub mod Alone

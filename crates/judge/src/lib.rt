@@ -1,0 +1,269 @@
+// One judge for each set of document 01's rows.
+use decoder::Frame;
+use decoder::Params;
+use decoder::SilkDecoderControl;
+use decoder::SilkDecoderState;
+use decoder::all_within;
+use decoder::both;
+use decoder::equals;
+use decoder::history_row;
+use decoder::is_type;
+use decoder::is_voiced;
+use decoder::lines_fit;
+use decoder::only_if;
+use decoder::rate_row;
+use decoder::size_row;
+use decoder::within;
+use refusal::Refusal;
+use refusal::first;
+use shape::Rate;
+use shape::count_of;
+use shape::frame_length;
+use word::add32;
+use word::wide16;
+ghost use mathlib.Core.Path.{_≡_};
+ghost use mathlib.Core.Bool.{not};
+ghost use Prim.Native.Nat.{_<_, _≤_};
+ghost use lib.IntN.{pos};
+ghost use lib.ListN.{getD};
+ghost use mir.Syntax.{w16};
+ghost use mir.Val.{SFits};
+ghost use Rattle.word.specs.Int.{eqℤ};
+ghost use Rattle.refusal.specs.First.{firstOr, firstOf};
+ghost use Rattle.shape.specs.Shape.{shape, rateOf, countOf};
+ghost use Rattle.decoder.specs.Ranges.{within, linesFit};
+ghost use Rattle.decoder.specs.Rows.{stateRows};
+ghost use Rattle.judge.specs.Taps.{tapSum, tapsFit};
+ghost use Rattle.judge.specs.Rows.{signalRow, gainRow, lagRow, tapsRow, roomRow, lengthRow, paramRows, roomRows, receivedRows, lostRows, frameRows, coreRows, plcReceivedRows, glueRows, cngRows};
+
+fn tap(taps: &[i16; 20], i: usize) -> i32
+    requires { ⌜ i < 20 ⌝ }
+    ensures { λ r. ⌜ (r ≡ getD (now (taps .entry)) i (pos 0)) × SFits w16 r ⌝ }
+{
+    wide16(taps[i])
+}
+
+// The five taps of subframe k, added up.
+pub fn tap_sum(taps: &[i16; 20], k: usize) -> i32
+    requires { ⌜ k < 4 ⌝ }
+    ensures { λ r. ⌜ r ≡ tapSum (now (taps .entry)) k ⌝ }
+{
+    let at = 5 * k;
+    let two = add32(tap(taps, at), tap(taps, at + 1));
+    let four = add32(add32(two, tap(taps, at + 2)), tap(taps, at + 3));
+    add32(four, tap(taps, at + 4))
+}
+
+fn run_full_row(loss_cnt: i32) -> bool
+    ensures { λ r. ⌜ r ≡ eqℤ «loss_cnt» (pos 2147483647) ⌝ }
+{
+    loss_cnt == 2147483647
+}
+
+fn is_offset(n: i8) -> bool
+    ensures { λ r. ⌜ r ≡ within (pos 0) (pos 1) n ⌝ }
+{
+    match n {
+        0 | 1 => true,
+        _ => false,
+    }
+}
+
+// 0 to 3 interpolate the lines, 4 does not.
+fn is_interpolation(n: i8) -> bool
+    ensures { λ r. ⌜ r ≡ within (pos 0) (pos 4) n ⌝ }
+{
+    match n {
+        0..=3 | 4 => true,
+        _ => false,
+    }
+}
+
+fn signal_row(q: Params) -> bool
+    ensures { λ r. ⌜ r ≡ signalRow q ⌝ }
+{
+    let signal = q.signal;
+    let ok = both(is_type(signal), is_offset(q.quant_offset_type));
+    !both(ok, is_interpolation(q.nlsf_interp_coef_q2))
+}
+
+fn gain_row(nb_subfr: i32, c: SilkDecoderControl) -> bool
+    ensures { λ r. ⌜ r ≡ gainRow (countOf «nb_subfr») c ⌝ }
+{
+    let gains = c.gains_q16;
+    !all_within(81920, 1686110208, &gains, count_of(nb_subfr))
+}
+
+fn lag_row(fs_khz: i32, nb_subfr: i32, q: Params, c: SilkDecoderControl) -> bool
+    ensures { λ r. ⌜ r ≡ lagRow (shape «fs_khz» «nb_subfr») q c ⌝ }
+{
+    let signal = q.signal;
+    let lags = c.pitch_l;
+    let low = Rate::lag_min(fs_khz);
+    let high = Rate::lag_max(fs_khz);
+    let ok = all_within(low, high, &lags, count_of(nb_subfr));
+    !only_if(is_voiced(signal), ok)
+}
+
+// The sums of the first n subframes' taps fit 16 bits.
+fn taps_fit(taps: &[i16; 20], n: usize) -> bool
+    requires { ⌜ n ≤ 4 ⌝ }
+    ensures { λ r. ⌜ r ≡ tapsFit (now (taps .entry)) n ⌝ }
+{
+    let mut ok = true;
+    for k in 0..n {
+        ok = both(ok, within(-32768, 32767, tap_sum(taps, k)));
+    }
+    ok
+}
+
+fn taps_row(nb_subfr: i32, q: Params, c: SilkDecoderControl) -> bool
+    ensures { λ r. ⌜ r ≡ tapsRow (countOf «nb_subfr») q c ⌝ }
+{
+    let signal = q.signal;
+    let taps = c.ltp_coef_q14;
+    let ok = only_if(is_voiced(signal), taps_fit(&taps, count_of(nb_subfr)));
+    !both(within(0, 16384, c.ltp_scale_q14), ok)
+}
+
+fn line_row(fs_khz: i32, lines: [i16; 16]) -> bool
+    ensures { λ r. ⌜ r ≡ not (linesFit (rateOf «fs_khz») lines) ⌝ }
+{
+    !lines_fit(fs_khz, &lines)
+}
+
+fn room_row(fs_khz: i32, nb_subfr: i32, lent: usize) -> bool
+    ensures { λ r. ⌜ r ≡ roomRow (shape «fs_khz» «nb_subfr») lent ⌝ }
+{
+    lent < frame_length(fs_khz, nb_subfr)
+}
+
+fn length_row(lent: usize, length: usize) -> bool
+    ensures { λ r. ⌜ r ≡ lengthRow lent length ⌝ }
+{
+    (length == 0) | (length > 320) | (length > lent)
+}
+
+// Rows 1 to 3, and where none applies, what the rows after them give.
+fn state_rows(s: SilkDecoderState, other: Refusal) -> Refusal
+    ensures { λ r. ⌜ r ≡ firstOr (stateRows s) other ⌝ }
+{
+    let history = first(history_row(s), Refusal::History, other);
+    let size = first(size_row(s), Refusal::Size, history);
+    first(rate_row(s), Refusal::Rate, size)
+}
+
+// Rows 5 to 8, and what is after them.
+fn param_rows(
+    fs_khz: i32,
+    nb_subfr: i32,
+    q: Params,
+    c: SilkDecoderControl,
+    other: Refusal,
+) -> Refusal
+    ensures { λ r. ⌜ r ≡ firstOr (paramRows (shape «fs_khz» «nb_subfr») q c) other ⌝ }
+{
+    let taps = first(taps_row(nb_subfr, q, c), Refusal::Taps, other);
+    let lag = first(lag_row(fs_khz, nb_subfr, q, c), Refusal::Lag, taps);
+    let gain = first(gain_row(nb_subfr, c), Refusal::Gain, lag);
+    first(signal_row(q), Refusal::Signal, gain)
+}
+
+// Rows 10 and 11.
+fn room_rows(fs_khz: i32, nb_subfr: i32, pulses: usize, output: usize) -> Refusal
+    ensures { λ r. ⌜ r ≡ firstOf (roomRows (shape «fs_khz» «nb_subfr») pulses output) ⌝ }
+{
+    let few_pulses = room_row(fs_khz, nb_subfr, pulses);
+    let short_output = room_row(fs_khz, nb_subfr, output);
+    let speaker = first(short_output, Refusal::Speaker, Refusal::Nothing);
+    first(few_pulses, Refusal::Pulses, speaker)
+}
+
+pub fn received(
+    s: SilkDecoderState,
+    q: Params,
+    c: SilkDecoderControl,
+    lines: [i16; 16],
+    pulses: usize,
+    output: usize,
+) -> Refusal
+    ensures { λ r. ⌜ r ≡ firstOf (receivedRows s q c lines pulses output) ⌝ }
+{
+    let khz = s.fs_khz;
+    let n = s.nb_subfr;
+    let line = first(
+        line_row(khz, lines),
+        Refusal::Line,
+        room_rows(khz, n, pulses, output),
+    );
+    state_rows(s, param_rows(khz, n, q, c, line))
+}
+
+pub fn lost(s: SilkDecoderState, output: usize) -> Refusal
+    ensures { λ r. ⌜ r ≡ firstOf (lostRows s output) ⌝ }
+{
+    let speaker = first(
+        room_row(s.fs_khz, s.nb_subfr, output),
+        Refusal::Speaker,
+        Refusal::Nothing,
+    );
+    let run_full = first(run_full_row(s.loss_cnt), Refusal::RunFull, speaker);
+    state_rows(s, run_full)
+}
+
+pub fn frame(
+    s: SilkDecoderState,
+    f: Frame,
+    c: SilkDecoderControl,
+    lines: [i16; 16],
+    pulses: usize,
+    output: usize,
+) -> Refusal
+    ensures { λ r. ⌜ r ≡ firstOf (frameRows s f c lines pulses output) ⌝ }
+{
+    let Frame::Received(q) = f else {
+        return lost(s, output);
+    };
+    received(s, q, c, lines, pulses, output)
+}
+
+pub fn core(
+    s: SilkDecoderState,
+    q: Params,
+    c: SilkDecoderControl,
+    pulses: usize,
+    output: usize,
+) -> Refusal
+    ensures { λ r. ⌜ r ≡ firstOf (coreRows s q c pulses output) ⌝ }
+{
+    let khz = s.fs_khz;
+    let n = s.nb_subfr;
+    state_rows(
+        s,
+        param_rows(khz, n, q, c, room_rows(khz, n, pulses, output)),
+    )
+}
+
+pub fn plc_received(s: SilkDecoderState, q: Params, c: SilkDecoderControl) -> Refusal
+    ensures { λ r. ⌜ r ≡ firstOf (plcReceivedRows s q c) ⌝ }
+{
+    state_rows(s, param_rows(s.fs_khz, s.nb_subfr, q, c, Refusal::Nothing))
+}
+
+pub fn glue(s: SilkDecoderState, lent: usize, length: usize) -> Refusal
+    ensures { λ r. ⌜ r ≡ firstOf (glueRows s lent length) ⌝ }
+{
+    state_rows(
+        s,
+        first(length_row(lent, length), Refusal::Length, Refusal::Nothing),
+    )
+}
+
+pub fn cng(s: SilkDecoderState, c: SilkDecoderControl, lent: usize, length: usize) -> Refusal
+    ensures { λ r. ⌜ r ≡ firstOf (cngRows s c lent length) ⌝ }
+{
+    let last = first(length_row(lent, length), Refusal::Length, Refusal::Nothing);
+    let heard = equals(s.loss_cnt, 0);
+    let gain = gain_row(s.nb_subfr, c);
+    state_rows(s, first(both(heard, gain), Refusal::Gain, last))
+}

@@ -1,0 +1,3 @@
+-- The laws that the proofs share.
+pub mod Pieces
+pub mod Round

@@ -1,0 +1,130 @@
+-- How a state and a description lie in the slices that a program lends: each number in its own type, arrays whole.
+use Prim.Native.Nat.{ℕ}
+use mathlib.Core.Bool.{Bool, _||_}
+use mathlib.Core.List.{List, [], _∷_, _++_}
+use lib.Dec.{ltb}
+use lib.IntN.{ℤ, pos}
+use lib.ListN.{getD, length, take, drop}
+use Rattle.decoder.specs.declared.SilkCNGState.{SilkCNGState}
+use Rattle.decoder.specs.declared.SilkPLCState.{SilkPLCState}
+use Rattle.decoder.specs.declared.SilkDecoderState.{SilkDecoderState}
+use Rattle.decoder.specs.declared.SilkDecoderControl.{SilkDecoderControl}
+
+-- n numbers from place `at` on
+abbrev pub part : List ℤ → ℕ → ℕ → List ℤ
+part xs at n = take n (drop at xs)
+
+abbrev pub one : List ℤ → ℕ → ℤ
+one xs at = getD xs at (pos 0)
+
+-- 696 words and 535 halves hold a state
+unfoldable pub shortState : List ℤ → List ℤ → Bool
+shortState words halves = ltb (length words) 696 || ltb (length halves) 535
+
+unfoldable pub cngIn : List ℤ → List ℤ → SilkCNGState
+cngIn words halves =
+    record {
+      «cng_exc_buf_q14» = part words 357 320;
+      «cng_smth_nlsf_q15» = part halves 519 16;
+      «cng_synth_state» = part words 677 16;
+      «cng_smth_gain_q16» = one words 693;
+      «rand_seed» = one words 694;
+      «fs_khz» = one words 695;
+    }
+
+unfoldable pub plcIn : List ℤ → List ℤ → SilkPLCState
+plcIn words halves =
+    record {
+      «pitch_l_q8» = one words 347;
+      «ltp_coef_q14» = part halves 496 5;
+      «prev_lpc_q12» = part halves 501 16;
+      «last_frame_lost» = one words 348;
+      «rand_seed» = one words 349;
+      «rand_scale_q14» = one halves 517;
+      «conc_energy» = one words 350;
+      «conc_energy_shift» = one words 351;
+      «prev_ltp_scale_q14» = one halves 518;
+      «prev_gain_q16» = part words 352 2;
+      «fs_khz» = one words 354;
+      «nb_subfr» = one words 355;
+      «subfr_length» = one words 356;
+    }
+
+-- the state that words and halves hold
+unfoldable pub stateIn : List ℤ → List ℤ → SilkDecoderState
+stateIn words halves =
+    record {
+      «prev_gain_q16» = one words 0;
+      «exc_q14» = part words 1 320;
+      «s_lpc_q14_buf» = part words 321 16;
+      «out_buf» = part halves 0 480;
+      «lag_prev» = one words 337;
+      «fs_khz» = one words 338;
+      «nb_subfr» = one words 339;
+      «frame_length» = one words 340;
+      «subfr_length» = one words 341;
+      «ltp_mem_length» = one words 342;
+      «lpc_order» = one words 343;
+      «prev_nlsf_q15» = part halves 480 16;
+      «first_frame_after_reset» = one words 344;
+      «s_cng» = cngIn words halves;
+      «loss_cnt» = one words 345;
+      «prev_signal_type» = one words 346;
+      «s_plc» = plcIn words halves;
+    }
+
+-- the numbers between the decoder's arrays and the noise's: the decoder's, then concealment's
+unfoldable pub numbers : SilkDecoderState → List ℤ
+numbers s =
+    let h = s .«s_plc» in
+    s .«lag_prev» ∷ s .«fs_khz» ∷ s .«nb_subfr» ∷ s .«frame_length» ∷ s .«subfr_length» ∷ s .«ltp_mem_length» ∷ s .«lpc_order»
+    ∷ s .«first_frame_after_reset»
+    ∷ s .«loss_cnt»
+    ∷ s .«prev_signal_type»
+    ∷ h .«pitch_l_q8»
+    ∷ h .«last_frame_lost»
+    ∷ h .«rand_seed»
+    ∷ h .«conc_energy»
+    ∷ h .«conc_energy_shift»
+    ∷ getD (h .«prev_gain_q16») 0 (pos 0)
+    ∷ getD (h .«prev_gain_q16») 1 (pos 0)
+    ∷ h .«fs_khz»
+    ∷ h .«nb_subfr»
+    ∷ h .«subfr_length»
+    ∷ []
+
+-- a state's words
+unfoldable pub stateWords : SilkDecoderState → List ℤ
+stateWords s =
+    let h = s .«s_cng» in
+    (s .«prev_gain_q16» ∷ []) ++ s .«exc_q14» ++ s .«s_lpc_q14_buf» ++ numbers s ++ h .«cng_exc_buf_q14» ++ h .«cng_synth_state»
+    ++ (h .«cng_smth_gain_q16» ∷ h .«rand_seed» ∷ h .«fs_khz» ∷ [])
+
+-- a state's halves
+unfoldable pub stateHalves : SilkDecoderState → List ℤ
+stateHalves s =
+    let h = s .«s_plc» in
+    s .«out_buf» ++ s .«prev_nlsf_q15» ++ h .«ltp_coef_q14» ++ h .«prev_lpc_q12» ++ (h .«rand_scale_q14» ∷ h .«prev_ltp_scale_q14» ∷ [])
+    ++ s .«s_cng» .«cng_smth_nlsf_q15»
+
+-- 9 numbers and 20 taps hold a description
+unfoldable pub shortControl : List ℤ → List ℤ → Bool
+shortControl control taps = ltb (length control) 9 || ltb (length taps) 20
+
+-- the description that they hold
+unfoldable pub controlIn : List ℤ → List ℤ → SilkDecoderControl
+controlIn control taps =
+    record {
+      «pitch_l» = part control 0 4;
+      «gains_q16» = part control 4 4;
+      «ltp_coef_q14» = part taps 0 20;
+      «ltp_scale_q14» = one control 8;
+    }
+
+-- a description's numbers; its taps follow by themselves
+unfoldable pub controlNumbers : SilkDecoderControl → List ℤ
+controlNumbers c = c .«pitch_l» ++ c .«gains_q16» ++ (c .«ltp_scale_q14» ∷ [])
+
+-- the two coefficient rows in 32 numbers
+unfoldable pub rowsIn : List ℤ → List (List ℤ)
+rowsIn rows = part rows 0 16 ∷ part rows 16 16 ∷ []

@@ -1,0 +1,48 @@
+use borrow.Author.Tests.{not-true, not-false}
+use mathlib.Core.Path.{sym, _∙_}
+use borrow.Author.Needs.{needs}
+use Rattle.post.proofs.keep_state.Statement.{statement}
+use Rattle.post.proofs.keep_state.Tie as tie
+use Rattle.post.proofs.keep_state.Reads as reads
+use Rattle.post.proofs.keep_state.Lts as lts
+use Rattle.layout.proofs.put_halves.Reads as put-halves-reads
+use Rattle.layout.proofs.put_words.Reads as put-words-reads
+use Rattle.post.proofs.accepted.Reads as accepted-reads
+
+accepted-requires : tie.Need-accepted-requires
+accepted-requires c κs = search needs
+
+returns : tie.Need-returns
+returns c =
+    let e = sym (c .before .accepted .ensures) ∙ not-true _ (c .if1 .taken) in
+    (rw e, rw e)
+
+put-words-requires : tie.Need-put-words-requires
+put-words-requires c κs = search needs
+
+put-halves-requires : tie.Need-put-halves-requires
+put-halves-requires c κs = search needs
+
+same-length : tie.Need-same-length
+same-length c = search needs
+
+same-length-2 : tie.Need-same-length-2
+same-length-2 c = search needs
+
+returns-2 : tie.Need-returns-2
+returns-2 c =
+    let k = c .before .before .before .before .before .before in
+    let e = sym (k .before .accepted .ensures) ∙ not-false _ (k .if1 .left) in
+    (rw e (c .before .before .before .before .put-words .ensures), rw e (c .before .put-halves .ensures))
+
+pub keep-state-spec : {M : Type 1} → statement M
+keep-state-spec =
+    tie.close
+    (tie.spec
+    accepted-requires
+    returns
+    put-words-requires
+    put-halves-requires
+    same-length
+    same-length-2
+    returns-2)

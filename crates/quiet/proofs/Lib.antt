@@ -1,0 +1,9 @@
+pub mod Voice
+pub mod Loss
+pub mod Wane
+pub mod Quiet
+pub mod Level
+pub mod Frame
+pub mod Frames
+pub mod Loudness
+pub mod Start

@@ -1,0 +1,110 @@
+-- Every accepted state is one that a loss may find, and what the count of losses then comes to.
+use Prim.Native.Nat.{ℕ, _≤_, zero-le}
+use mathlib.Core.Path.{_≡_, refl, sym, subst}
+use mathlib.Core.Bool.{Bool, true, false, cond}
+use mathlib.Core.List.{List}
+use native.Mathlib.Omega.{arith}
+use native.Mathlib.Nat.{le-refl}
+use lib.Dec.{lit≤}
+use lib.IntN.{ℤ, pos, natAbs}
+use lib.ListN.{getD}
+use Rattle.word.specs.Int.{eqℤ}
+use Rattle.word.specs.Size.{sizeAt, sizes, Bounded}
+use Rattle.word.proofs.Order.{eqℤ-true}
+use Rattle.word.proofs.Lists.{sizes-le}
+use Rattle.word.proofs.Sizes.{abs-le}
+use Rattle.sigproc.proofs.Shrink.{Upto, sum-small, sum-small-sooner}
+use Rattle.sigproc.proofs.Ranges.{fit-bounded}
+use Rattle.shape.specs.Shape.{Shape, rateOf, lpcOrder}
+use Rattle.shape.proofs.Shapes.{rate-le, order-le}
+use Rattle.decoder.specs.State.{shapeOf}
+use Rattle.decoder.specs.Accepted.{Accepted}
+use Rattle.decoder.specs.Typed.{Typed}
+use Rattle.decoder.specs.declared.SilkPLCState.{SilkPLCState}
+use Rattle.decoder.specs.declared.SilkDecoderState.{SilkDecoderState}
+use Rattle.decoder.proofs.Between.{Between}
+use Rattle.decoder.proofs.Bounds.{TapBounds, PlcBounds, bounds}
+use Rattle.plc.specs.Hold.{plcReset, plcReady}
+use Rattle.plc.specs.Conceal.{laterGain, concealed}
+use Rattle.quiet.specs.Bound.{quietBound, anySum, anyLosses, smallSum, smallLosses}
+use Rattle.quiet.proofs.Loss.{ready, Gained, Outer, Fits}
+use Rattle.quiet.proofs.Wane.{wider}
+use Rattle.quiet.proofs.Loudness.{After, Falls, start, quiet-after-ten}
+
+-- ---- what a reset leaves
+record Same (h k : SilkPLCState) : Type 0 where
+  taps : k .«ltp_coef_q14» ≡ h .«ltp_coef_q14»
+  scale : k .«rand_scale_q14» ≡ h .«rand_scale_q14»
+  ltp : k .«prev_ltp_scale_q14» ≡ h .«prev_ltp_scale_q14»
+  coefs : k .«prev_lpc_q12» ≡ h .«prev_lpc_q12»
+
+same : (p : Shape) (h : SilkPLCState) → Same h (plcReady p h)
+unfolding plcReady plcReset
+same p h = go (eqℤ (pos (p .rate)) (h .«fs_khz»))
+  where
+    go : (b : Bool) → Same h (cond b h (plcReset p h))
+    go true = record { taps = refl; scale = refl; ltp = refl; coefs = refl }
+    go false = record { taps = refl; scale = refl; ltp = refl; coefs = refl }
+
+-- ---- an accepted state
+taps-of : (b : List ℤ) → TapBounds b → Outer b × (sizeAt b 2 ≤ 15565)
+taps-of b k = (
+  (rw (k .first) (le-refl 0), rw (k .second) (le-refl 0), rw (k .fourth) (le-refl 0), rw (k .fifth) (le-refl 0)),
+  abs-le (getD b 2 (pos 0)) 15565 (omega (arith, k .high)) (omega (arith, k .low)),
+)
+
+upto-of : (B : ℕ) (z : ℤ) → Between 0 B z → Upto B z
+upto-of B z k = subst (Upto B) (sym (k .is)) (zero-le, k .high)
+
+-- the later gain: held, or 65,536 after a reset
+gain-of : (p : Shape) (h : SilkPLCState) → PlcBounds (p .rate) h → (G : ℕ) × Gained G (plcReady p h)
+unfolding plcReady plcReset
+gain-of p h k = go (eqℤ (pos (p .rate)) (h .«fs_khz»)) refl
+  where
+    go : (b : Bool) → eqℤ (pos (p .rate)) (h .«fs_khz») ≡ b → (G : ℕ) × Gained G (cond b h (plcReset p h))
+    go true e =
+        let g = k .held (sym (eqℤ-true (pos (p .rate)) (h .«fs_khz») e)) .«prev_gain_q16» 1 (lit≤ tt) in
+        (natAbs (laterGain h), record { is = g .is; from = g .low; to = g .high })
+    go false e = (65536, record { is = refl; from = lit≤ tt; to = lit≤ tt })
+
+pub fits : (s : SilkDecoderState) → Accepted (rateOf (s .«fs_khz»)) s → Typed s → Fits (shapeOf s) s
+fits s a t =
+    let h = s .«s_plc» in
+    let b = bounds (rateOf (s .«fs_khz»)) s a in
+    let k = b .plc in
+    let o = taps-of (h .«ltp_coef_q14») (k .«ltp_coef_q14») in
+    let e = same (shapeOf s) h in
+    record {
+      shaped = b .sizes .bounds;
+      sized = record {
+        memory = fit-bounded (s .«s_lpc_q14_buf») (t .«s_lpc_q14_buf» .fits);
+        memory16 = t .«s_lpc_q14_buf» .count;
+        room = omega (arith, t .«out_buf» .count, rate-le (s .«fs_khz»));
+      };
+      count = (natAbs (s .«loss_cnt»), b .decoder .«loss_cnt»);
+      gain = gain-of (shapeOf s) h k;
+      outer = rw (e .taps) (o .0);
+      tap = rw (e .taps) (o .1);
+      noise = rw (e .scale) (wider (h .«rand_scale_q14») 27840 32767 (lit≤ tt) (upto-of 27840 (h .«rand_scale_q14») (k .«rand_scale_q14»)));
+      ltp = rw (e .ltp) (upto-of 16384 (h .«prev_ltp_scale_q14») (k .«prev_ltp_scale_q14»));
+      coefs = rw (e .coefs) (fit-bounded (h .«prev_lpc_q12») (t .«s_plc» .«prev_lpc_q12» .fits));
+    }
+
+-- ---- from any state
+pub falls-any : Falls anySum anyLosses
+falls-any = record { late = lit≤ tt; small = sum-small }
+
+pub start-any : (p : Shape) (s : SilkDecoderState) (f : Fits p s) → After p (f .gain .0) anySum anyLosses 0 s
+start-any p s f =
+    start p (f .gain .0) anySum anyLosses falls-any s f refl
+    (omega (arith, sizes-le (ready p s .«prev_lpc_q12») (lpcOrder p) 32768 (f .coefs), order-le (p .rate)))
+
+pub quiet-after-1024 : (p : Shape) (G c : ℕ) (s : SilkDecoderState) → 1024 ≤ c → After p G anySum anyLosses c s → Bounded (quietBound G) (concealed p s (ready p s))
+quiet-after-1024 p G c s h a = quiet-after-ten p G anySum anyLosses falls-any c s (omega arith) a
+
+-- ---- where the coefficients' sizes first add up to little
+pub falls-small : Falls smallSum smallLosses
+falls-small = record { late = lit≤ tt; small = sum-small-sooner }
+
+pub start-small : (p : Shape) (s : SilkDecoderState) (f : Fits p s) → sizes (s .«s_plc» .«prev_lpc_q12») (lpcOrder p) ≤ smallSum → After p (f .gain .0) smallSum smallLosses 0 s
+start-small p s f h = start p (f .gain .0) smallSum smallLosses falls-small s f refl (rw (same p (s .«s_plc») .coefs) h)
