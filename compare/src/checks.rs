@@ -4,9 +4,11 @@ use crate::call::{self, Call, Draft, LONG, SHORT, What, place, written};
 use crate::draw::{self, Draw, SHAPES};
 use crate::reference::{STOP, STOPPED, read_state};
 use crate::shrink::shrink;
-use crate::{ffi, rows, streams};
+use crate::{ffi, firmware, rows, streams};
 use std::collections::BTreeMap;
+use std::ffi::OsStr;
 use std::path::{Path, PathBuf};
+use std::process::Command;
 
 /// What to compare, and how much of it.
 pub struct Options {
@@ -179,6 +181,30 @@ impl Options {
             Ok(text) | Err(text) => println!("streams: {text}"),
         }
         played.is_ok()
+    }
+
+    /// A stream in the Rust's frame loop, its own and with the library in place of its stages.
+    pub fn firmware(&self, file: &Path) -> bool {
+        let fault = self.fault.as_deref() == Some("firmware");
+        let compared = streams::read(file).and_then(|stream| {
+            firmware::compare(&stream, fault).map_err(|why| format!("{}: {why}", stream.name))?;
+            Ok(format!("{}: both loops agree on samples and state after each of {} frames", stream.name, stream.records.len()))
+        });
+        match &compared {
+            Ok(text) | Err(text) => println!("firmware: {text}"),
+        }
+        compared.is_ok()
+    }
+}
+
+/// The examples in C and Rust, built and run by their script.
+pub fn examples(script: &OsStr, streams: &Path) -> bool {
+    match Command::new(script).arg(streams).status() {
+        Ok(status) => status.success(),
+        Err(why) => {
+            println!("examples: {}: {why}", script.display());
+            false
+        }
     }
 }
 

@@ -1,13 +1,20 @@
 //! The given Rust beside the proved library.
 
+mod answers;
 mod bench;
 mod call;
 mod checks;
 mod draw;
 mod ffi;
+mod firmware;
 #[allow(unused)]
 #[rustfmt::skip]
 mod mirror;
+/// The safe binding, as a firmware has it.
+#[allow(unused)]
+#[rustfmt::skip]
+#[path = "../../bindings/rust/src/lib.rs"]
+mod post;
 mod reference;
 mod rows;
 mod shrink;
@@ -20,7 +27,7 @@ use std::path::{Path, PathBuf};
 use std::process::ExitCode;
 
 const USAGE: &str = "compare/run SOURCES [--seed S] [--from CASE] [--count N] [--streams FOLDER] [--self] [WHAT ...]";
-const OTHERS: [&str; 3] = ["rows", "lists", "streams"];
+const OTHERS: [&str; 5] = ["rows", "lists", "streams", "firmware", "examples"];
 
 fn main() -> ExitCode {
     let words: Vec<String> = std::env::args().skip(1).collect();
@@ -28,8 +35,10 @@ fn main() -> ExitCode {
     std::panic::set_hook(Box::new(|why| *reference::STOP.lock().unwrap() = why.to_string()));
     let done = catch_unwind(|| match texts[..] {
         ["run", ..] => run(&texts[1..]),
-        ["bench", folder] => bench::bench(Path::new(folder), false).map(|()| true),
-        ["bench", folder, "--self"] => bench::bench(Path::new(folder), true).map(|()| true),
+        ["bench", folder, ref options @ ..] if options.iter().all(|option| ["--self", "--time"].contains(option)) => {
+            bench::bench(Path::new(folder), options.contains(&"--self"), options.contains(&"--time")).map(|()| true)
+        }
+        ["answers", streams, folder] => answers::write(Path::new(streams), Path::new(folder)).map(|()| true),
         ["count", folder, shape] => bench::count(Path::new(folder), shape).map(|()| true),
         _ => Err(USAGE.into()),
     });
@@ -76,22 +85,31 @@ fn run(words: &[&str]) -> Result<bool, String> {
             println!("{name}: absent from the library");
         }
     }
+    let frames = options.has(What::Received) && options.has(What::Lost);
     if wanted("lists") {
-        if options.has(What::Received) && options.has(What::Lost) {
+        if frames {
             outcomes.push(options.lists());
         } else {
             println!("lists: absent from the library");
         }
     }
-    if wanted("streams") {
+    for name in ["streams", "firmware"].into_iter().filter(|name| wanted(name)) {
         match &options.streams {
+            _ if name == "firmware" && !frames => println!("{name}: absent from the library"),
             Some(folder) => {
                 for file in streams::folder(folder)? {
-                    outcomes.push(options.stream(&file));
+                    outcomes.push(if name == "streams" { options.stream(&file) } else { options.firmware(&file) });
                 }
             }
-            None if named.is_empty() => println!("streams: no folder is named"),
-            None => return Err("streams: --streams FOLDER is needed".into()),
+            None if named.is_empty() => println!("{name}: no folder is named"),
+            None => return Err(format!("{name}: --streams FOLDER is needed")),
+        }
+    }
+    if wanted("examples") {
+        match (&options.streams, std::env::var_os("COMPARE_EXAMPLES")) {
+            (Some(folder), Some(script)) if !options.own && frames => outcomes.push(checks::examples(&script, folder)),
+            _ if named.is_empty() => println!("examples: need the library and a folder of streams"),
+            _ => return Err("examples: the library and --streams FOLDER are needed".into()),
         }
     }
     let passed = outcomes.iter().filter(|passed| **passed).count();

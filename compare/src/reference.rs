@@ -98,10 +98,14 @@ fn write<T: Copy, const N: usize>(fields: [(&str, &mut [T]); N], mut to: &mut [T
     }
 }
 
+pub fn read_into(dec: &mut SilkDecoderState, words: &[i32], halves: &[i16]) {
+    read(word_fields(dec), words);
+    read(half_fields(dec), halves);
+}
+
 pub fn read_state(words: &[i32], halves: &[i16]) -> SilkDecoderState {
     let mut dec = SilkDecoderState::default();
-    read(word_fields(&mut dec), words);
-    read(half_fields(&mut dec), halves);
+    read_into(&mut dec, words, halves);
     dec
 }
 

@@ -3,34 +3,17 @@
 //! In each stream 1,200 frames are lost after its loudest one. A frame's level is its loudest concealed sample before comfort noise;
 //! the bound of demand 3 is drawn from the 1,025th loss on.
 
-use post::{Description, Params, Post};
-use std::{env, fs};
+mod stream;
+
+use post::{Description, Post};
+use std::env;
+use stream::Stream;
 
 const LOSSES: usize = 1_200;
 const COUNTED: usize = 1_024;
 
 /// The place of the later of concealment's gains in the state's words.
 const LATER_GAIN: usize = 353;
-
-struct Bytes(std::vec::IntoIter<u8>);
-
-impl Bytes {
-    fn small(&mut self) -> i8 {
-        self.0.next().expect("the stream is cut") as i8
-    }
-
-    fn short(&mut self) -> i16 {
-        i16::from_le_bytes([self.small() as u8, self.small() as u8])
-    }
-
-    fn long(&mut self) -> i32 {
-        i32::from_le_bytes([self.small() as u8, self.small() as u8, self.small() as u8, self.small() as u8])
-    }
-
-    fn shorts(&mut self, to: &mut [i16]) {
-        to.iter_mut().for_each(|to| *to = self.short());
-    }
-}
 
 struct Start {
     name: String,
@@ -40,34 +23,21 @@ struct Start {
 
 /// Plays a stream, and loses frames after the loudest one that was received.
 fn start(file: &str) -> Start {
-    let mut bytes = Bytes(fs::read(file).expect(file).into_iter());
-    let head: Vec<i8> = (0..12).map(|_| bytes.small()).collect();
-    let (rate, subframes, count) = (head[8] as i32, head[9] as i32, bytes.long());
-    let length = (5 * rate * subframes) as usize;
-    let mut post = Post::set_up(rate, subframes).expect("a shape");
-    let (mut output, mut best) = (vec![0i16; length], (0, post.clone()));
-    for _ in 0..count {
-        let mut description = Description::default();
-        if bytes.small() == 1 {
-            let params =
-                Params { signal_type: bytes.small(), quant_offset_type: bytes.small(), nlsf_interp_coef_q2: bytes.small(), seed: bytes.small() };
-            description.pitch_l.iter_mut().for_each(|to| *to = bytes.long());
-            description.gains_q16.iter_mut().for_each(|to| *to = bytes.long());
-            description.pred_coef_q12.iter_mut().for_each(|row| bytes.shorts(row));
-            bytes.shorts(&mut description.ltp_coef_q14);
-            description.ltp_scale_q14 = bytes.long();
-            bytes.shorts(&mut description.nlsf_q15);
-            let mut pulses = vec![0; length];
-            bytes.shorts(&mut pulses);
+    let stream = Stream::read(file).unwrap();
+    let mut post = Post::set_up(stream.rate, stream.subframes).expect("a shape");
+    let mut best = (0, post.clone());
+    let mut output = vec![];
+    for record in stream.records {
+        output.resize(record.samples.len(), 0);
+        if let Some((params, mut description, pulses)) = record.frame {
             post.received(params, &mut description, &pulses, &mut output).expect("a frame");
             let level = peak(&output);
             if level > best.0 {
                 best = (level, post.clone());
             }
         } else {
-            post.lost(&mut description, &mut output).expect("a loss");
+            post.lost(&mut Description::default(), &mut output).expect("a loss");
         }
-        bytes.shorts(&mut vec![0; length]);
     }
     let mut post = best.1;
     let levels = (0..LOSSES)
@@ -80,7 +50,7 @@ fn start(file: &str) -> Start {
         })
         .collect();
     let bound = post.parts().0[LATER_GAIN] / 4_194_304 + 64;
-    Start { name: format!("{rate} kHz, {subframes} subframes"), levels, bound }
+    Start { name: format!("{} kHz, {} subframes", stream.rate, stream.subframes), levels, bound }
 }
 
 fn peak(samples: &[i16]) -> u16 {

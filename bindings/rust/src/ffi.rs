@@ -1,12 +1,18 @@
 //! The linked functions, on slices.
 
-use crate::Params;
+use super::Params;
 
+/// The state's numbers of 32 bits.
 pub const WORDS: usize = 696;
+/// The state's numbers of 16 bits.
 pub const HALVES: usize = 535;
+/// Four lags, four gains and the long-term scale.
 pub const CONTROL: usize = 9;
+/// Five long-term taps for each of four subframes.
 pub const TAPS: usize = 20;
+/// Two rows of 16 coefficients.
 pub const ROWS: usize = 32;
+/// Line frequencies.
 pub const LINES: usize = 16;
 
 unsafe extern "C" {
@@ -45,10 +51,12 @@ unsafe extern "C" {
 
 // In each function a slice is lent for the call alone, with its own length.
 
+/// `post_set_up`.
 pub fn set_up(rate: i32, subframes: i32, words: &mut [i32], halves: &mut [i16]) -> i32 {
     unsafe { post_set_up(rate, subframes, words.as_mut_ptr(), words.len(), halves.as_mut_ptr(), halves.len()) }
 }
 
+/// `post_received`.
 #[allow(clippy::too_many_arguments)]
 pub fn received(
     words: &mut [i32], halves: &mut [i16], q: Params, control: &mut [i32], taps: &mut [i16], rows: &[i16], lines: &[i16], pulses: &[i16], output: &mut [i16],
@@ -62,6 +70,7 @@ pub fn received(
     }
 }
 
+/// `post_lost`.
 pub fn lost(words: &mut [i32], halves: &mut [i16], control: &mut [i32], taps: &mut [i16], output: &mut [i16]) -> i32 {
     unsafe {
         post_lost(
@@ -71,6 +80,7 @@ pub fn lost(words: &mut [i32], halves: &mut [i16], control: &mut [i32], taps: &m
     }
 }
 
+/// `post_core`.
 #[allow(clippy::too_many_arguments)]
 pub fn core(
     words: &mut [i32], halves: &mut [i16], q: Params, control: &mut [i32], taps: &mut [i16], rows: &[i16], pulses: &[i16], output: &mut [i16],
@@ -84,6 +94,7 @@ pub fn core(
     }
 }
 
+/// `post_plc_received`.
 pub fn plc_received(words: &mut [i32], halves: &mut [i16], q: Params, control: &mut [i32], taps: &mut [i16], rows: &[i16]) -> i32 {
     unsafe {
         post_plc_received(
@@ -93,6 +104,7 @@ pub fn plc_received(words: &mut [i32], halves: &mut [i16], q: Params, control: &
     }
 }
 
+/// `post_plc_lost`.
 pub fn plc_lost(words: &mut [i32], halves: &mut [i16], control: &mut [i32], taps: &mut [i16], output: &mut [i16]) -> i32 {
     unsafe {
         post_plc_lost(
@@ -102,10 +114,12 @@ pub fn plc_lost(words: &mut [i32], halves: &mut [i16], control: &mut [i32], taps
     }
 }
 
+/// `post_glue`.
 pub fn glue(words: &mut [i32], halves: &mut [i16], buffer: &mut [i16], length: usize) -> i32 {
     unsafe { post_glue(words.as_mut_ptr(), words.len(), halves.as_mut_ptr(), halves.len(), buffer.as_mut_ptr(), buffer.len(), length) }
 }
 
+/// `post_noise`.
 pub fn noise(words: &mut [i32], halves: &mut [i16], control: &[i32], taps: &[i16], buffer: &mut [i16], length: usize) -> i32 {
     unsafe {
         post_noise(
@@ -115,14 +129,17 @@ pub fn noise(words: &mut [i32], halves: &mut [i16], control: &[i32], taps: &[i16
     }
 }
 
+/// `post_played`.
 pub fn played(rate: i32, subframes: i32, output: &mut [i16]) -> i32 {
     unsafe { post_played(rate, subframes, output.as_mut_ptr(), output.len()) }
 }
 
+/// `post_stability`.
 pub fn stability(coefficients: &[i16], order: usize, result: &mut [i32]) -> i32 {
     unsafe { post_stability(coefficients.as_ptr(), coefficients.len(), order, result.as_mut_ptr(), result.len()) }
 }
 
+/// `post_filter`.
 pub fn filter(coefficients: &mut [i16], lines: &[i16], order: usize) -> i32 {
     unsafe { post_filter(coefficients.as_mut_ptr(), coefficients.len(), lines.as_ptr(), lines.len(), order) }
 }

@@ -3,7 +3,7 @@
 //! [`Post`] owns a decoder's state. A frame is played by [`Post::received`] or [`Post::lost`]; one that the
 //! back end turns down leaves the state, the description and the output as they were.
 //!
-//! ```no_run
+//! ```
 //! use post::{Description, Params, Post};
 //!
 //! let mut post = Post::set_up(16, 4)?;
@@ -15,30 +15,46 @@
 //! # Ok::<(), post::Refusal>(())
 //! ```
 
+#![warn(missing_docs)]
+
 pub mod ffi;
 
 use std::fmt;
 
-/// Why a call was turned down.
+/// Why a call was turned down, r being the rate in kHz and n the count of subframes.
 #[derive(Clone, Copy, PartialEq, Eq, Debug)]
 #[repr(i32)]
 pub enum Refusal {
+    /// The rate is not 8, 12 or 16 kHz.
     Rate = 1,
+    /// There are not 2 or 4 subframes, or a length or order in the state disagrees with the shape.
     Size = 2,
+    /// A state field is outside its range.
     History = 3,
+    /// The frame is lost and the count of losses is 2,147,483,647.
     RunFull = 4,
+    /// The signal type is not 0 to 2, the offset type not 0 or 1, or the interpolation not 0 to 4.
     Signal = 5,
+    /// A gain is not in 81,920 to 1,686,110,208 (Q16).
     Gain = 6,
+    /// The frame is voiced and a lag is not in 2r to 18r.
     Lag = 7,
+    /// The long-term scale is not in 0 to 16,384, or the frame is voiced and a subframe's taps add up to more than 16 bits hold.
     Taps = 8,
+    /// A line frequency is negative.
     Line = 9,
+    /// Fewer than 5rn pulses were lent.
     Pulses = 10,
+    /// Fewer than 5rn output samples were lent.
     Speaker = 11,
+    /// Gluing or noise alone: the length is 0, above 320 or above the buffer.
     Length = 12,
+    /// Stability test or filter from lines: the order is none, or a slice is shorter than it.
     Order = 13,
 }
 
 impl Refusal {
+    /// Every refusal, by number.
     pub const ALL: [Refusal; 13] = [
         Refusal::Rate,
         Refusal::Size,
@@ -55,10 +71,12 @@ impl Refusal {
         Refusal::Order,
     ];
 
+    /// The number that the library answers.
     pub fn number(self) -> i32 {
         self as i32
     }
 
+    /// What was turned down, in a word or two.
     pub fn word(self) -> &'static str {
         match self {
             Refusal::Rate => "rate",
@@ -95,21 +113,28 @@ fn answered(number: i32) -> Result<(), Refusal> {
 }
 
 /// The small numbers of a received frame.
-#[derive(Clone, Copy, Default, Debug)]
+#[derive(Clone, Copy, Default, PartialEq, Eq, Debug)]
 pub struct Params {
     /// 0 no voice activity, 1 unvoiced, 2 voiced.
     pub signal_type: i8,
+    /// 0 or 1.
     pub quant_offset_type: i8,
+    /// 0 to 4; below 4 the first half of the frame has a filter of its own.
     pub nlsf_interp_coef_q2: i8,
+    /// Where the excitation's generator starts.
     pub seed: i8,
 }
 
 /// A frame's description. The back end may change lags and taps.
-#[derive(Clone, Default, Debug)]
+#[derive(Clone, Default, PartialEq, Eq, Debug)]
 pub struct Description {
+    /// The lag of each subframe, in samples.
     pub pitch_l: [i32; 4],
+    /// The gain of each subframe.
     pub gains_q16: [i32; 4],
+    /// The scale of the long-term state in the frame's first subframe.
     pub ltp_scale_q14: i32,
+    /// Five long-term taps for each subframe.
     pub ltp_coef_q14: [i16; 20],
     /// The two coefficient rows of a received frame.
     pub pred_coef_q12: [[i16; 16]; 2],
@@ -140,8 +165,8 @@ impl Description {
     }
 }
 
-/// A decoder's state.
-#[derive(Clone, PartialEq, Eq)]
+/// A decoder's state, in slices of its own.
+#[derive(Clone, PartialEq, Eq, Debug)]
 pub struct Post {
     words: [i32; ffi::WORDS],
     halves: [i16; ffi::HALVES],
@@ -160,6 +185,7 @@ impl Post {
         Post { words, halves }
     }
 
+    /// The state's numbers, in the library's order.
     pub fn parts(&self) -> (&[i32; ffi::WORDS], &[i16; ffi::HALVES]) {
         (&self.words, &self.halves)
     }

@@ -147,6 +147,17 @@ unfoldable pub addedTo : List ℤ → List ℤ → ℤ → ℕ → List ℤ
 addedTo frame signal gain n =
     tabulate n (λ i. sat16 (getD frame i (pos 0) +ℤ played gain (getD signal (16 + i) (pos 0)))) ++ drop n frame
 
+-- n samples of a frame with noise of order d added, by concealment's noise scale and its last gain
+abbrev pub sounding : ℕ → ℤ → ℤ → SilkCNGState → ℕ → List ℤ → List ℤ
+sounding d scale last h n frame =
+    addedTo frame (noiseSignal d h n) (noiseGain scale last (h .«cng_smth_gain_q16»)) n
+
+-- what is held after a received frame of a type: the background is followed in one without voice activity
+abbrev pub heardNoise : Shape → List ℤ → List ℤ → List ℤ → ℤ → SilkCNGState → SilkCNGState
+heardNoise p exc lines gains type held =
+    let h = cngReady (p .rate) held in
+    silenced (lpcOrder p) (cond (eqℤ type (pos 0)) (tracked p exc lines gains h) h)
+
 -- a state with another noise in it
 abbrev pub withNoise : SilkDecoderState → SilkCNGState → SilkDecoderState
 withNoise s h =
@@ -162,8 +173,13 @@ unfoldable pub comfortNoise : Shape → SilkDecoderState → List ℤ → ℕ �
 comfortNoise p s gains n frame =
     let d = lpcOrder p in
     let h = cngReady (p .rate) (s .«s_cng») in
-    let followed = cond (eqℤ (s .«prev_signal_type») (pos 0)) (tracked p (s .«exc_q14») (s .«prev_nlsf_q15») gains h) h in
     let plc = s .«s_plc» in
-    let gain = noiseGain (plc .«rand_scale_q14») (getD (plc .«prev_gain_q16») 1 (pos 0)) (h .«cng_smth_gain_q16») in
-    cond (eqℤ (s .«loss_cnt») (pos 0)) (record { state = withNoise s (silenced d followed); frame = frame })
-    (record { state = withNoise s (sounded d h n); frame = addedTo frame (noiseSignal d h n) gain n })
+    cond (eqℤ (s .«loss_cnt») (pos 0))
+    (record {
+      state = withNoise s (heardNoise p (s .«exc_q14») (s .«prev_nlsf_q15») gains (s .«prev_signal_type») (s .«s_cng»));
+      frame = frame;
+    })
+    (record {
+      state = withNoise s (sounded d h n);
+      frame = sounding d (plc .«rand_scale_q14») (getD (plc .«prev_gain_q16») 1 (pos 0)) h n frame;
+    })

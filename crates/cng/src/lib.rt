@@ -34,10 +34,10 @@ ghost use Rattle.word.specs.Tabulate.{tabulate};
 ghost use Rattle.sigproc.specs.Synthesis.{played};
 ghost use Rattle.nlsf.specs.Lines.{negativeLine};
 ghost use Rattle.nlsf.specs.Filter.{nlsf2a};
-ghost use Rattle.shape.specs.Shape.{shape, isRate, isCount, rateOf};
+ghost use Rattle.shape.specs.Shape.{shape, isRate, isCount, rateOf, orderOf};
 ghost use Rattle.decoder.specs.Ranges.{cngFits};
 ghost use Rattle.decoder.specs.State.{shapeOf};
-ghost use Rattle.cng.specs.Noise.{flatLine, cngReset, cngReady, smoothedLine, smoothedLines, louder, loudest, nextGain, smoothedGain, movedIn, tracked, noiseGain, excMask, Mask, seedAt, drawn, noiseSignal, silenced, sounded, addedTo, comfortNoise};
+ghost use Rattle.cng.specs.Noise.{flatLine, cngReset, cngReady, smoothedLine, smoothedLines, louder, loudest, nextGain, smoothedGain, movedIn, tracked, noiseGain, excMask, Mask, seedAt, drawn, noiseSignal, silenced, sounded, sounding, heardNoise, comfortNoise};
 ghost use Rattle.cng.specs.Answer.{cngAnswer, cngOutput};
 
 pub struct CngAnswer {
@@ -158,29 +158,30 @@ fn smoothed_gain(held: i32, gains: &[i32; 4], n: usize) -> i32
 }
 
 // Subframe k, of l samples, in front of the held ones.
-fn moved_in(held: [i32; 320], exc: [i32; 320], l: usize, n: usize, k: usize) -> [i32; 320]
+fn moved_in(held: [i32; 320], exc: &[i32; 320], l: usize, n: usize, k: usize) -> [i32; 320]
     requires { ⌜ (l ≤ 80) × (n ≤ 4) × (k < n) ⌝ }
-    ensures { λ r. ⌜ r ≡ movedIn l n exc held k ⌝ }
+    ensures { λ r. ⌜ r ≡ movedIn l n (now (exc .entry)) held k ⌝ }
 {
     let a = k * l;
     let b = a + l;
     let m = (n - 1) * l;
     let mut new = held;
-    copy32_at(&mut new, 0, &exc[a..b]);
+    let whole = &exc[..];
+    copy32_at(&mut new, 0, &whole[a..b]);
     copy32_at(&mut new, l, &held[..m]);
     new
 }
 
 fn tracked(
     h: SilkCNGState,
-    exc: [i32; 320],
+    exc: &[i32; 320],
     lines: [i16; 16],
     gains: &[i32; 4],
     khz: i32,
     nb_subfr: i32,
 ) -> SilkCNGState
     requires { ⌜ (isRate khz ≡ true) × (isCount «nb_subfr» ≡ true) ⌝ }
-    ensures { λ r. ⌜ r ≡ tracked (shape khz «nb_subfr») exc lines (now (gains .entry)) h ⌝ }
+    ensures { λ r. ⌜ r ≡ tracked (shape khz «nb_subfr») (now (exc .entry)) lines (now (gains .entry)) h ⌝ }
 {
     let n = count_of(nb_subfr);
     let held = h.cng_exc_buf_q14;
@@ -266,11 +267,11 @@ fn noise_signal(buf: &mut [i32], h: SilkCNGState, d: usize) -> i32
 {
     let m = buf.len();
     let n = m - 16;
-    let exc = h.cng_exc_buf_q14;
     let lines = h.cng_smth_nlsf_q15;
     let memory = h.cng_synth_state;
+    let held = h.rand_seed;
     copy32_at(buf, 0, &memory);
-    let seed = drawn(&mut buf[16..m], &exc, exc_mask(n), h.rand_seed);
+    let seed = drawn(&mut buf[16..m], &h.cng_exc_buf_q14, exc_mask(n), held);
     let a = noise_filter(lines, d);
     lpc_synthesis(buf, &a, d);
     seed
@@ -296,7 +297,7 @@ fn zeros336() -> [i32; 336] {
 fn noise(h: SilkCNGState, d: usize, scale: i16, last: i32, frame: &mut [i16]) -> SilkCNGState
     requires { ⌜ (length (now frame) ≤ 320) × ((d ≡ 10) ⊎ (d ≡ 16)) × (negativeLine (h .«cng_smth_nlsf_q15») d ≡ false) ⌝ }
     ensures { λ r. ⌜ (r ≡ sounded d h (length (now (frame .entry))))
-        × (now (frame .exit) ≡ addedTo (now (frame .entry)) (noiseSignal d h (length (now (frame .entry)))) (noiseGain scale last (h .«cng_smth_gain_q16»)) (length (now (frame .entry)))) ⌝ }
+        × (now (frame .exit) ≡ sounding d scale last h (length (now (frame .entry))) (now (frame .entry))) ⌝ }
 {
     let n = frame.len();
     let m = 16 + n;
@@ -341,7 +342,7 @@ fn silenced(h: SilkCNGState, d: usize) -> SilkCNGState
 // The background followed in a frame without voice activity.
 fn followed(
     h: SilkCNGState,
-    exc: [i32; 320],
+    exc: &[i32; 320],
     lines: [i16; 16],
     gains: &[i32; 4],
     khz: i32,
@@ -349,7 +350,7 @@ fn followed(
     signal_type: i32,
 ) -> SilkCNGState
     requires { ⌜ (isRate khz ≡ true) × (isCount «nb_subfr» ≡ true) ⌝ }
-    ensures { λ r. ⌜ r ≡ cond (eqℤ «signal_type» (pos 0)) (tracked (shape khz «nb_subfr») exc lines (now (gains .entry)) h) h ⌝ }
+    ensures { λ r. ⌜ r ≡ cond (eqℤ «signal_type» (pos 0)) (tracked (shape khz «nb_subfr») (now (exc .entry)) lines (now (gains .entry)) h) h ⌝ }
 {
     if signal_type != 0 {
         return h;
@@ -357,28 +358,63 @@ fn followed(
     tracked(h, exc, lines, gains, khz, nb_subfr)
 }
 
+// What noise holds after a received frame.
+pub fn received(
+    held: SilkCNGState,
+    exc: &[i32; 320],
+    lines: [i16; 16],
+    gains: &[i32; 4],
+    khz: i32,
+    nb_subfr: i32,
+    signal_type: i32,
+) -> SilkCNGState
+    requires { ⌜ (isRate khz ≡ true) × (isCount «nb_subfr» ≡ true) ⌝ }
+    ensures { λ r. ⌜ r ≡ heardNoise (shape khz «nb_subfr») (now (exc .entry)) lines (now (gains .entry)) «signal_type» held ⌝ }
+{
+    let d = Rate::lpc_order(khz);
+    let h = ready(held, khz);
+    silenced(
+        followed(h, exc, lines, gains, khz, nb_subfr, signal_type),
+        d,
+    )
+}
+
+// Noise added to a lost frame.
+pub fn lost(held: SilkCNGState, khz: i32, scale: i16, last: i32, frame: &mut [i16]) -> SilkCNGState
+    requires { ⌜ (isRate khz ≡ true) × (cngFits (rateOf khz) held ≡ true) × (length (now frame) ≤ 320) ⌝ }
+    ensures { λ r. ⌜ (r ≡ sounded (orderOf (rateOf khz)) (cngReady (rateOf khz) held) (length (now (frame .entry))))
+        × (now (frame .exit) ≡ sounding (orderOf (rateOf khz)) scale last (cngReady (rateOf khz) held) (length (now (frame .entry))) (now (frame .entry))) ⌝ }
+{
+    let d = Rate::lpc_order(khz);
+    let h = ready(held, khz);
+    noise(h, d, scale, last, frame)
+}
+
 // Comfort noise for a whole frame.
-pub fn comfort_noise(s: SilkDecoderState, gains: &[i32; 4], frame: &mut [i16]) -> SilkDecoderState
+fn comfort_noise(s: SilkDecoderState, gains: &[i32; 4], frame: &mut [i16]) -> SilkDecoderState
     requires { ⌜ (isRate (s .«fs_khz») ≡ true) × (isCount (s .«nb_subfr») ≡ true) × (cngFits (rateOf (s .«fs_khz»)) (s .«s_cng») ≡ true) × (length (now frame) ≤ 320) ⌝ }
     ensures { λ r. ⌜ record { state = r; frame = now (frame .exit) } ≡ comfortNoise (shapeOf s) s (now (gains .entry)) (length (now (frame .entry))) (now (frame .entry)) ⌝ }
 {
     let khz = s.fs_khz;
-    let d = Rate::lpc_order(khz);
     let held = s.s_cng;
-    let h = ready(held, khz);
     let mut t = s;
     if s.loss_cnt == 0 {
         let exc = s.exc_q14;
         let lines = s.prev_nlsf_q15;
-        let new = silenced(
-            followed(h, exc, lines, gains, khz, s.nb_subfr, s.prev_signal_type),
-            d,
+        let new = received(
+            held,
+            &exc,
+            lines,
+            gains,
+            khz,
+            s.nb_subfr,
+            s.prev_signal_type,
         );
         t.s_cng = new;
         return t;
     }
     let plc = s.s_plc;
-    let new = noise(h, d, plc.rand_scale_q14, plc.prev_gain_q16[1], frame);
+    let new = lost(held, khz, plc.rand_scale_q14, plc.prev_gain_q16[1], frame);
     t.s_cng = new;
     t
 }

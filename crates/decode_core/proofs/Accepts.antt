@@ -17,7 +17,7 @@ use Rattle.decoder.specs.declared.SilkDecoderControl.{SilkDecoderControl}
 use Rattle.decoder.specs.declared.Params.{Params}
 use Rattle.decoder.proofs.Between.{is-positive}
 use Rattle.decoder.proofs.Bounds.{bounds}
-use Rattle.judge.proofs.Between.{both}
+use Rattle.word.proofs.Rows.{both}
 use Rattle.judge.proofs.Bounds.{CoreFits}
 use Rattle.decode_core.specs.Core.{transition, settingOf}
 use Rattle.decode_core.specs.Ready.{Framed}
@@ -48,7 +48,7 @@ framed s q c pulses output h =
       lags = λ v k l.
           let g = p .lags v k l in
           let i = lag-of (natAbs (getD (c .«pitch_l») k (pos 0))) (z .rate) (g .low) (g .high) in
-          record { whole = g .whole; low = i .0; high = i .1 };
+          record { whole = g .is; low = i .0; high = i .1 };
       smooth = λ t.
           let x = both (ltZ (pos 0) (s .«loss_cnt») && eqℤ (s .«prev_signal_type») (pos 2)) (not (isVoiced (q .signal))) t in
           let y = both (ltZ (pos 0) (s .«loss_cnt»)) (eqℤ (s .«prev_signal_type») (pos 2)) (x .0) in

@@ -19,7 +19,7 @@ use Rattle.decoder.specs.declared.SilkDecoderState.{SilkDecoderState}
 use Rattle.decoder.specs.declared.SilkDecoderControl.{SilkDecoderControl}
 use Rattle.decoder.specs.declared.Params.{Params}
 use Rattle.decode_core.specs.Core.{Core, subframes, settingOf, start, coreExcitation, decodeCore}
-use Rattle.decode_core.proofs.Samples.{length-excitation}
+use Rattle.decode_core.specs.Excitation.{offsetQ14, excitation}
 use Rattle.decode_core.specs.Ready.{held, begin, Left}
 use Rattle.decode_core.specs.declared.Setting.{Setting}
 use Rattle.decode_core.specs.declared.Carried.{Carried}
@@ -74,22 +74,29 @@ pub frame-of : (s : SilkDecoderState) (q : Params) (f : Setting) (count : ℕ) �
 unfolding settingOf
 frame-of s q f count hf hk = λ i. hf i .«subfr_length» * hk i
 
-module _ (s : SilkDecoderState) (q : Params) (c : SilkDecoderControl) (rows : List (List ℤ)) (pulses : List ℤ) (f : Setting) (n count : ℕ) (exc : List ℤ) (b r : Carried) (memory ob xq xq₀ : List ℤ)
+-- what the subframes of a setting f play from
+abbrev exc-of : Setting → Params → List ℤ → ℕ → List ℤ
+exc-of f q pulses count = excitation (offsetQ14 (f .voiced) (q .«quant_offset_type»)) pulses (q .seed) (f .«subfr_length» * count)
+
+module _ (s : SilkDecoderState) (q : Params) (c : SilkDecoderControl) (rows : List (List ℤ)) (pulses : List ℤ) (f : Setting) (count : ℕ) (exc : List ℤ) (b r : Carried) (memory ob xq xq₀ : List ℤ)
     (hf : f ≡ settingOf (shapeOf s) s q)
-    (hn : n ≡ frameLength (shapeOf s))
     (hk : count ≡ countOf (s .«nb_subfr»))
-    (he : exc ≡ coreExcitation (shapeOf s) q pulses ++ drop (frameLength (shapeOf s)) (s .«exc_q14»))
+    (he : exc ≡ exc-of f q pulses count ++ drop (f .«subfr_length» * count) (s .«exc_q14»))
     (hc : b .control ≡ c)
     (hg : b .gain ≡ s .«prev_gain_q16»)
-    (l : Left (subframes f rows (take n exc) (begin f b (s .«s_lpc_q14_buf») (s .«out_buf»)) count) r memory ob xq (drop (f .«subfr_length» * count) xq₀)) where
-  excitation-front : take n exc ≡ coreExcitation (shapeOf s) q pulses
-  unfolding coreExcitation
-  excitation-front = (λ i. take (hn i) (he i)) ∙ take-at (coreExcitation (shapeOf s) q pulses) _ (frameLength (shapeOf s)) (length-excitation _ pulses _ (frameLength (shapeOf s)))
+    (l : Left (subframes f rows (exc-of f q pulses count) (begin f b (s .«s_lpc_q14_buf») (s .«out_buf»)) count) r memory ob xq (drop (f .«subfr_length» * count) xq₀)) where
+  excitation-is : exc-of f q pulses count ≡ coreExcitation (shapeOf s) q pulses
+  unfolding coreExcitation settingOf
+  excitation-is =
+      λ i. excitation (offsetQ14 (hf i .voiced) (q .«quant_offset_type»)) pulses (q .seed) (frame-of s q f count hf hk i)
 
-  whole : subframes f rows (take n exc) (begin f b (s .«s_lpc_q14_buf») (s .«out_buf»)) count ≡ subframes (settingOf (shapeOf s) s q) rows (coreExcitation (shapeOf s) q pulses) (start (shapeOf s) s c) (countOf (s .«nb_subfr»))
+  whole : subframes f rows (exc-of f q pulses count) (begin f b (s .«s_lpc_q14_buf») (s .«out_buf»)) count ≡ subframes (settingOf (shapeOf s) s q) rows (coreExcitation (shapeOf s) q pulses) (start (shapeOf s) s c) (countOf (s .«nb_subfr»))
   unfolding settingOf start
   whole =
-      λ i. subframes (hf i) rows (excitation-front i) (record { control = hc i; past = replicate (hf i .«ltp_mem_length») (pos 0); memory = s .«s_lpc_q14_buf»; gain = hg i; buffer = s .«out_buf»; samples = [] }) (hk i)
+      λ i. subframes (hf i) rows (excitation-is i) (record { control = hc i; past = replicate (hf i .«ltp_mem_length») (pos 0); memory = s .«s_lpc_q14_buf»; gain = hg i; buffer = s .«out_buf»; samples = [] }) (hk i)
+
+  excited : exc ≡ coreExcitation (shapeOf s) q pulses ++ drop (frameLength (shapeOf s)) (s .«exc_q14»)
+  excited = he ∙ λ i. excitation-is i ++ drop (frame-of s q f count hf hk i) (s .«exc_q14»)
 
   pub decoded-state : build s (r .gain) exc memory ob (s .«lag_prev») (s .«prev_nlsf_q15») (s .«first_frame_after_reset») (s .«s_cng») (s .«loss_cnt») (s .«prev_signal_type») (s .«s_plc») ≡ decodeCore (shapeOf s) s q c rows pulses .state
   unfolding decodeCore
@@ -97,7 +104,7 @@ module _ (s : SilkDecoderState) (q : Params) (c : SilkDecoderControl) (rows : Li
       let g = l .gain ∙ ap (λ (x : Core). x .gain) whole in
       let m = l .memory ∙ ap (λ (x : Core). x .memory) whole in
       let o = l .buffer ∙ ap (λ (x : Core). x .buffer) whole in
-      λ i. build s (g i) (he i) (m i) (o i) (s .«lag_prev») (s .«prev_nlsf_q15») (s .«first_frame_after_reset») (s .«s_cng») (s .«loss_cnt») (s .«prev_signal_type») (s .«s_plc»)
+      λ i. build s (g i) (excited i) (m i) (o i) (s .«lag_prev») (s .«prev_nlsf_q15») (s .«first_frame_after_reset») (s .«s_cng») (s .«loss_cnt») (s .«prev_signal_type») (s .«s_plc»)
 
   pub decoded-control : r .control ≡ decodeCore (shapeOf s) s q c rows pulses .control
   unfolding decodeCore

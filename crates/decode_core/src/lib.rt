@@ -12,7 +12,6 @@ use macros::silk_smulww;
 use refusal::Refusal;
 use shape::Rate;
 use shape::count_of;
-use shape::frame_length;
 use sigproc::copy16_at;
 use sigproc::copy32_at;
 use sigproc::lpc_synthesis;
@@ -23,6 +22,7 @@ use word::add32;
 use word::neg32;
 use word::shl32;
 use word::sub32;
+use word::wide8;
 use word::wide16;
 ghost use mathlib.Core.Path.{_≡_};
 ghost use mathlib.Core.Bool.{true, cond, not, _&&_};
@@ -52,9 +52,9 @@ pub struct CoreAnswer {
 }
 
 // What a frame leaves beside its samples.
-pub struct Decoded {
-    pub state: SilkDecoderState,
-    pub control: SilkDecoderControl,
+struct CoreState {
+    state: SilkDecoderState,
+    control: SilkDecoderControl,
 }
 
 // What the subframes of a frame share. A transition is a frame that is not voiced after the loss of a voiced one.
@@ -502,13 +502,6 @@ fn synthesise(
     t
 }
 
-// The same number, in 32 bits.
-fn wide8(a: i8) -> i32
-    ensures { λ r. ⌜ r ≡ a ⌝ }
-{
-    a as i32
-}
-
 fn transition(loss_cnt: i32, prev_signal_type: i32, voiced: bool) -> bool
     ensures { λ r. ⌜ r ≡ (ltZ (pos 0) «loss_cnt» && eqℤ «prev_signal_type» (pos 2) && not voiced) ⌝ }
 {
@@ -520,7 +513,7 @@ fn transition(loss_cnt: i32, prev_signal_type: i32, voiced: bool) -> bool
     false
 }
 
-fn setting_of(s: SilkDecoderState, q: Params) -> Setting
+pub fn setting_of(s: SilkDecoderState, q: Params) -> Setting
     ensures { λ r. ⌜ r ≡ settingOf (shapeOf s) s q ⌝ }
 {
     let khz = s.fs_khz;
@@ -541,42 +534,45 @@ fn setting_of(s: SilkDecoderState, q: Params) -> Setting
     }
 }
 
-// The first n samples anew.
-fn excitation_of(
-    old: [i32; 320],
-    n: usize,
-    voiced: bool,
-    quant_offset_type: i8,
-    seed: i8,
+// A received frame that no row refuses: exc, memory and out_buf are the state's, before it and after.
+pub fn decode_core(
+    f: Setting,
+    q: Params,
+    count: usize,
+    b: Carried,
+    rows: [[i16; 16]; 2],
     pulses: &[i16],
-) -> [i32; 320]
-    requires { ⌜ (n ≤ 320) × (n ≤ length (now pulses)) ⌝ }
-    ensures { λ r. ⌜ r ≡ excitation (offsetQ14 voiced «quant_offset_type») (now (pulses .entry)) seed n ++ drop n old ⌝ }
+    exc: &mut [i32],
+    memory: &mut [i32],
+    out_buf: &mut [i16],
+    xq: &mut [i16],
+) -> Carried
+    requires { ⌜ Framed f (b .control) count × (b .idx ≡ f .«ltp_mem_length») × (f .«subfr_length» * count ≤ length (now pulses)) × (f .«subfr_length» * count ≤ length (now exc)) × (length (now memory) ≡ 16) × (length (now «out_buf») ≡ 480) × (f .«subfr_length» * count ≤ length (now xq)) ⌝ }
+    ensures { λ r. ⌜ (now (exc .exit) ≡ excitation (offsetQ14 (f .voiced) (q .«quant_offset_type»)) (now (pulses .entry)) (q .seed) (f .«subfr_length» * count) ++ drop (f .«subfr_length» * count) (now (exc .entry)))
+        × Left (subframes f rows (excitation (offsetQ14 (f .voiced) (q .«quant_offset_type»)) (now (pulses .entry)) (q .seed) (f .«subfr_length» * count)) (begin f b (now (memory .entry)) (now («out_buf» .entry))) count) r (now (memory .exit)) (now («out_buf» .exit)) (now (xq .exit)) (drop (f .«subfr_length» * count) (now (xq .entry))) ⌝ }
 {
-    let mut exc = old;
-    let offset = offset_q14(voiced, quant_offset_type);
-    excite(&mut exc[..n], pulses, offset, wide8(seed));
-    exc
+    let n = f.subfr_length * count;
+    let offset = offset_q14(f.voiced, q.quant_offset_type);
+    excite(&mut exc[..n], pulses, offset, wide8(q.seed));
+    synthesise(f, count, rows, &exc[..n], b, memory, out_buf, xq)
 }
 
-// A received frame that no row refuses.
-pub fn decode_core(
+// The state and the description after a frame.
+fn decoded(
     s: SilkDecoderState,
     q: Params,
     c: SilkDecoderControl,
     rows: [[i16; 16]; 2],
     pulses: &[i16],
     xq: &mut [i16],
-) -> Decoded
+) -> CoreState
     requires { ⌜ Framed (settingOf (shapeOf s) s q) c (countOf (s .«nb_subfr»)) × (frameLength (shapeOf s) ≤ length (now pulses)) × (frameLength (shapeOf s) ≤ length (now xq)) ⌝ }
     ensures { λ r. ⌜ (r .state ≡ decodeCore (shapeOf s) s q c rows (now (pulses .entry)) .state) × (r .control ≡ decodeCore (shapeOf s) s q c rows (now (pulses .entry)) .control)
         × (now (xq .exit) ≡ decodeCore (shapeOf s) s q c rows (now (pulses .entry)) .samples ++ drop (frameLength (shapeOf s)) (now (xq .entry))) ⌝ }
 {
-    let n = frame_length(s.fs_khz, s.nb_subfr);
     let count = count_of(s.nb_subfr);
     let f = setting_of(s, q);
-    let old = s.exc_q14;
-    let exc = excitation_of(old, n, f.voiced, q.quant_offset_type, q.seed, pulses);
+    let mut exc = s.exc_q14;
     let mut memory = s.s_lpc_q14_buf;
     let mut out_buf = s.out_buf;
     let b = Carried {
@@ -584,14 +580,25 @@ pub fn decode_core(
         gain: s.prev_gain_q16,
         idx: f.ltp_mem_length,
     };
-    let r = synthesise(f, count, rows, &exc[..n], b, &mut memory, &mut out_buf, xq);
+    let r = decode_core(
+        f,
+        q,
+        count,
+        b,
+        rows,
+        pulses,
+        &mut exc,
+        &mut memory,
+        &mut out_buf,
+        xq,
+    );
     let control = r.control;
     let mut t = s;
     t.prev_gain_q16 = r.gain;
     t.exc_q14 = exc;
     t.s_lpc_q14_buf = memory;
     t.out_buf = out_buf;
-    Decoded { state: t, control }
+    CoreState { state: t, control }
 }
 
 pub fn silk_decode_core(
@@ -612,7 +619,7 @@ pub fn silk_decode_core(
             control: c,
         };
     }
-    let d = decode_core(s, q, c, rows, pulses, xq);
+    let d = decoded(s, q, c, rows, pulses, xq);
     let state = d.state;
     let control = d.control;
     CoreAnswer {

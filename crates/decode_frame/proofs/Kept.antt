@@ -31,7 +31,6 @@ use Rattle.decoder.proofs.Between.{Between, AllBetween, all-between}
 use Rattle.decoder.proofs.Bounds.{PlcBounds, CngBounds, bounds, history-fits}
 use Rattle.decoder.proofs.Built.{in-range, wider, between-32, typed-build}
 use Rattle.judge.specs.Taps.{tapSum}
-use Rattle.judge.proofs.Between as J
 use Rattle.judge.proofs.Bounds.{ParamsFit}
 use Rattle.glue.specs.Glue.{glueFrames}
 use Rattle.decode_core.specs.Core.{decodeCore}
@@ -44,10 +43,6 @@ use Rattle.plc.proofs.Types.{updated-typed}
 use Rattle.plc.proofs.Concealed.{conceal-bounds, conceal-typed, conceal-samples, conceal-control, conceal-lag}
 use Rattle.decode_frame.specs.WholeFrame.{lined, remembered, resumed, lagKept, received, lost}
 use Rattle.decode_frame.proofs.Finishing.{Fine, Before, lined-typed, lined-lines, remembered-typed, finished-keeps, finished-fine}
-
--- a range that the judge found
-as-range : {l h : ℕ} {z : ℤ} → J.Between l h z → Between l h z
-as-range b = record { is = b .whole; low = b .low; high = b .high }
 
 -- ---- a lost frame
 -- one loss more fits a word below the top
@@ -106,10 +101,10 @@ module _ (p : Shape) (q : Shaped (p .rate) (p .subframes)) (s : SilkDecoderState
     decoded = decodeCore p start f c rows pulses
 
     last-gain : Between 81920 1686110208 (getD (c .«gains_q16») (p .subframes - 1) (pos 0))
-    last-gain = as-range (fit .gains (p .subframes - 1) (omega (arith, q .count-low)))
+    last-gain = fit .gains (p .subframes - 1) (omega (arith, q .count-low))
 
     gains-kept : AllBetween 81920 1686110208 (decoded .control .«gains_q16») (p .subframes)
-    gains-kept = rw (core-gains p q start start-typed f c tc rows pulses tp) (λ i l. as-range (fit .gains i l))
+    gains-kept = rw (core-gains p q start start-typed f c tc rows pulses tp) (λ i l. fit .gains i l)
 
     samples-kept : Words w16 (frameLength p) (decoded .samples)
     samples-kept = core-samples p q start start-typed f c tc rows pulses tp
@@ -132,10 +127,10 @@ module _ (p : Shape) (q : Shaped (p .rate) (p .subframes)) (s : SilkDecoderState
     history-plc = k .plc
 
     scale-fits : Between 0 16384 (decoded .control .«ltp_scale_q14»)
-    scale-fits = rw (core-scale p q start start-typed f c tc rows pulses tp) (as-range (fit .scale))
+    scale-fits = rw (core-scale p q start start-typed f c tc rows pulses tp) (fit .scale)
 
     lags-fit : isVoiced (f .signal) ≡ true → (i : ℕ) → i < p .subframes → Between (2 * p .rate) (18 * p .rate) (getD (decoded .control .«pitch_l») i (pos 0))
-    lags-fit v i l = rw (same v) (as-range (fit .lags v i l))
+    lags-fit v i l = rw (same v) (fit .lags v i l)
 
     taps-fit : isVoiced (f .signal) ≡ true → (i : ℕ) → i < p .subframes → SFits w16 (tapSum (decoded .control .«ltp_coef_q14») i)
     taps-fit v i l = rw (same v) (fit .taps v i l)

@@ -1,5 +1,6 @@
 -- The laws that other proofs cite.
 pub mod Finishing
+pub mod Heard
 pub mod Kept
 pub mod Noised
 pub mod Bench

@@ -1,31 +1,34 @@
 // The whole frame (decode_frame.rs).
-use cng::comfort_noise;
+use decode_core::Carried;
 use decode_core::decode_core;
+use decode_core::setting_of;
 use decoder::Frame;
 use decoder::Params;
 use decoder::SilkDecoderControl;
 use decoder::SilkDecoderState;
-use glue::glue_frames;
+use glue::leave_energy;
+use glue::receive;
 use plc::conceal::plc_conceal;
-use plc::update::plc_update;
+use plc::update::type_number;
 use refusal::Refusal;
 use shape::Rate;
-use sigproc::copy16_at;
 use sigproc::update_out_buf;
+use sigproc::with_front;
 ghost use mathlib.Core.Path.{_≡_};
 ghost use mathlib.Core.Bool.{true, false};
-ghost use mathlib.Core.List.{_++_};
+ghost use mathlib.Core.List.{[]};
 ghost use Prim.Native.Nat.{_≤_};
 ghost use lib.IntN.{pos, natAbs};
-ghost use lib.ListN.{length, take, drop};
+ghost use lib.ListN.{length};
 ghost use Rattle.word.specs.Int.{eqℤ};
 ghost use Rattle.shape.specs.Shape.{isRate, isCount, rateOf, countOf, frameLength};
 ghost use Rattle.decoder.specs.State.{shapeOf};
 ghost use Rattle.decoder.specs.Ranges.{cngFits};
 ghost use Rattle.decoder.specs.Accepted.{Accepted};
+ghost use Rattle.decoder.specs.declared.Frame.the-variants.{Received, Lost};
 ghost use Rattle.decode_core.specs.Core.{settingOf};
 ghost use Rattle.decode_core.specs.Ready.{Framed};
-ghost use Rattle.decode_frame.specs.WholeFrame.{lined, remembered, resumed, lagKept, finished, received, lost};
+ghost use Rattle.decode_frame.specs.WholeFrame.{remembered, finished, received, lost};
 ghost use Rattle.decode_frame.specs.Answer.{frameAnswer, frameOutput};
 
 // Why a frame is turned down, or the new state and description.
@@ -41,26 +44,6 @@ struct Played {
     control: SilkDecoderControl,
 }
 
-// The first d lines of a frame over those held.
-fn new_lines(held: [i16; 16], lines: [i16; 16], d: usize) -> [i16; 16]
-    requires { ⌜ d ≤ 16 ⌝ }
-    ensures { λ r. ⌜ r ≡ take d lines ++ drop d held ⌝ }
-{
-    let mut new = held;
-    copy16_at(&mut new, 0, &lines[..d]);
-    new
-}
-
-fn lined(s: SilkDecoderState, lines: [i16; 16]) -> SilkDecoderState
-    ensures { λ r. ⌜ r ≡ lined (shapeOf s) s lines ⌝ }
-{
-    let mut t = s;
-    let held = s.prev_nlsf_q15;
-    let new = new_lines(held, lines, Rate::lpc_order(s.fs_khz));
-    t.prev_nlsf_q15 = new;
-    t
-}
-
 fn remembered(s: SilkDecoderState, frame: &[i16]) -> SilkDecoderState
     requires { ⌜ (isRate (s .«fs_khz») ≡ true) × (isCount (s .«nb_subfr») ≡ true) × (length (now frame) ≡ frameLength (shapeOf s)) ⌝ }
     ensures { λ r. ⌜ r ≡ remembered (shapeOf s) s (now (frame .entry)) ⌝ }
@@ -72,36 +55,27 @@ fn remembered(s: SilkDecoderState, frame: &[i16]) -> SilkDecoderState
     t
 }
 
-fn resumed(s: SilkDecoderState, signal_type: i32) -> SilkDecoderState
-    ensures { λ r. ⌜ r ≡ resumed s «signal_type» ⌝ }
-{
-    let mut t = s;
-    t.first_frame_after_reset = 0;
-    t.loss_cnt = 0;
-    t.prev_signal_type = signal_type;
-    t
-}
-
-fn lag_kept(s: SilkDecoderState, c: SilkDecoderControl) -> SilkDecoderState
-    requires { ⌜ isCount (s .«nb_subfr») ≡ true ⌝ }
-    ensures { λ r. ⌜ r ≡ lagKept (shapeOf s) s c ⌝ }
-{
-    let mut t = s;
-    let lags = c.pitch_l;
-    t.lag_prev = lags[shape::count_of(s.nb_subfr) - 1];
-    t
-}
-
-// Noise, gluing and lag_prev.
+// Noise, the energy for gluing and lag_prev of a lost frame.
 fn finished(s: SilkDecoderState, c: SilkDecoderControl, xq: &mut [i16]) -> SilkDecoderState
-    requires { ⌜ (isRate (s .«fs_khz») ≡ true) × (isCount (s .«nb_subfr») ≡ true) × (cngFits (rateOf (s .«fs_khz»)) (s .«s_cng») ≡ true) × (length (now xq) ≡ frameLength (shapeOf s))
-        × (s .«s_plc» .«conc_energy» ≡ pos (natAbs (s .«s_plc» .«conc_energy»))) × (s .«s_plc» .«conc_energy_shift» ≡ pos (natAbs (s .«s_plc» .«conc_energy_shift»))) × (natAbs (s .«s_plc» .«conc_energy_shift») ≤ 31) ⌝ }
+    requires { ⌜ (isRate (s .«fs_khz») ≡ true) × (isCount (s .«nb_subfr») ≡ true) × (cngFits (rateOf (s .«fs_khz»)) (s .«s_cng») ≡ true) × (length (now xq) ≡ frameLength (shapeOf s)) × (eqℤ (s .«loss_cnt») (pos 0) ≡ false) ⌝ }
     ensures { λ r. ⌜ record { state = r; control = c; samples = now (xq .exit) } ≡ finished (shapeOf s) (record { state = s; control = c; samples = now (xq .entry) }) ⌝ }
 {
-    let gains = c.gains_q16;
-    let noised = comfort_noise(s, &gains, xq);
-    let glued = glue_frames(noised, xq);
-    lag_kept(glued, c)
+    let plc = s.s_plc;
+    let noise = s.s_cng;
+    let lags = c.pitch_l;
+    let s_cng = cng::lost(
+        noise,
+        s.fs_khz,
+        plc.rand_scale_q14,
+        plc.prev_gain_q16[1],
+        xq,
+    );
+    let s_plc = leave_energy(plc, xq);
+    let mut t = s;
+    t.lag_prev = lags[shape::count_of(s.nb_subfr) - 1];
+    t.s_cng = s_cng;
+    t.s_plc = s_plc;
+    t
 }
 
 fn lost(s: SilkDecoderState, c: SilkDecoderControl, xq: &mut [i16]) -> Played
@@ -128,18 +102,120 @@ fn received(
     requires { ⌜ Accepted (rateOf (s .«fs_khz»)) s × Framed (settingOf (shapeOf s) s q) c (countOf (s .«nb_subfr»)) × (frameLength (shapeOf s) ≤ length (now pulses)) × (length (now xq) ≡ frameLength (shapeOf s)) ⌝ }
     ensures { λ r. ⌜ record { state = r .state; control = r .control; samples = now (xq .exit) } ≡ received (shapeOf s) s q c rows lines (now (pulses .entry)) ⌝ }
 {
+    let khz = s.fs_khz;
+    let nb = s.nb_subfr;
     let signal = q.signal;
-    let o = decode_core(lined(s, lines), q, c, rows, pulses, xq);
-    let decoded = o.state;
-    let control = o.control;
-    let t = remembered(decoded, xq);
-    let u = plc_update(t, signal, control, rows);
-    let kind = u.prev_signal_type;
-    let state = finished(resumed(u, kind), control, xq);
+    let count = shape::count_of(nb);
+    let f = setting_of(s, q);
+    let mut exc = s.exc_q14;
+    let mut memory = s.s_lpc_q14_buf;
+    let mut out_buf = s.out_buf;
+    let b = Carried {
+        control: c,
+        gain: s.prev_gain_q16,
+        idx: f.ltp_mem_length,
+    };
+    let r = decode_core(
+        f,
+        q,
+        count,
+        b,
+        rows,
+        pulses,
+        &mut exc,
+        &mut memory,
+        &mut out_buf,
+        xq,
+    );
+    let control = r.control;
+    let gains = control.gains_q16;
+    let lags = control.pitch_l;
+    let before = s.prev_nlsf_q15;
+    let nlsf = with_front(before, lines, f.lpc_order);
+    let history = update_out_buf(out_buf, f.ltp_mem_length, xq);
+    let held = s.s_plc;
+    let updated = plc::update::received(held, khz, nb, signal, control, rows);
+    let kind = type_number(signal);
+    let noise = s.s_cng;
+    let s_cng = cng::received(noise, &exc, nlsf, &gains, khz, nb, kind);
+    let s_plc = receive(updated, xq);
+    let state = SilkDecoderState {
+        prev_gain_q16: r.gain,
+        exc_q14: exc,
+        s_lpc_q14_buf: memory,
+        out_buf: history,
+        lag_prev: lags[count - 1],
+        fs_khz: khz,
+        nb_subfr: nb,
+        frame_length: s.frame_length,
+        subfr_length: s.subfr_length,
+        ltp_mem_length: s.ltp_mem_length,
+        lpc_order: s.lpc_order,
+        prev_nlsf_q15: nlsf,
+        first_frame_after_reset: 0,
+        s_cng,
+        loss_cnt: 0,
+        prev_signal_type: kind,
+        s_plc,
+    };
     Played { state, control }
 }
 
-// A frame, received or lost: refused, it changes nothing.
+// A received frame: refused, it changes nothing.
+pub fn received_frame(
+    s: SilkDecoderState,
+    q: Params,
+    c: SilkDecoderControl,
+    rows: [[i16; 16]; 2],
+    lines: [i16; 16],
+    pulses: &[i16],
+    xq: &mut [i16],
+) -> FrameAnswer
+    ensures { λ r. ⌜ (r ≡ frameAnswer s (Received q) c rows lines (now (pulses .entry)) (now (xq .entry)))
+        × (now (xq .exit) ≡ frameOutput s (Received q) c rows lines (now (pulses .entry)) (now (xq .entry))) ⌝ }
+{
+    let refusal = judge::received(s, q, c, lines, pulses.len(), xq.len());
+    if refusal::number(refusal) != 0 {
+        return FrameAnswer {
+            refusal,
+            state: s,
+            control: c,
+        };
+    }
+    let n = shape::frame_length(s.fs_khz, s.nb_subfr);
+    let o = received(s, q, c, rows, lines, pulses, &mut xq[..n]);
+    let state = o.state;
+    let control = o.control;
+    FrameAnswer {
+        refusal,
+        state,
+        control,
+    }
+}
+
+// A lost frame: refused, it changes nothing.
+pub fn lost_frame(s: SilkDecoderState, c: SilkDecoderControl, xq: &mut [i16]) -> FrameAnswer
+    ensures { λ r. ⌜ (r ≡ frameAnswer s Lost c [] [] [] (now (xq .entry))) × (now (xq .exit) ≡ frameOutput s Lost c [] [] [] (now (xq .entry))) ⌝ }
+{
+    let refusal = judge::lost(s, xq.len());
+    if refusal::number(refusal) != 0 {
+        return FrameAnswer {
+            refusal,
+            state: s,
+            control: c,
+        };
+    }
+    let n = shape::frame_length(s.fs_khz, s.nb_subfr);
+    let o = lost(s, c, &mut xq[..n]);
+    let state = o.state;
+    let control = o.control;
+    FrameAnswer {
+        refusal,
+        state,
+        control,
+    }
+}
+
 pub fn silk_decode_frame(
     s: SilkDecoderState,
     f: Frame,
@@ -152,31 +228,8 @@ pub fn silk_decode_frame(
     ensures { λ r. ⌜ (r ≡ frameAnswer s f c rows lines (now (pulses .entry)) (now (xq .entry)))
         × (now (xq .exit) ≡ frameOutput s f c rows lines (now (pulses .entry)) (now (xq .entry))) ⌝ }
 {
-    let refusal = judge::frame(s, f, c, lines, pulses.len(), xq.len());
-    if refusal::number(refusal) != 0 {
-        return FrameAnswer {
-            refusal,
-            state: s,
-            control: c,
-        };
-    }
-    let n = shape::frame_length(s.fs_khz, s.nb_subfr);
     let Frame::Received(q) = f else {
-        let o = lost(s, c, &mut xq[..n]);
-        let state = o.state;
-        let control = o.control;
-        return FrameAnswer {
-            refusal,
-            state,
-            control,
-        };
+        return lost_frame(s, c, xq);
     };
-    let o = received(s, q, c, rows, lines, pulses, &mut xq[..n]);
-    let state = o.state;
-    let control = o.control;
-    FrameAnswer {
-        refusal,
-        state,
-        control,
-    }
+    received_frame(s, q, c, rows, lines, pulses, xq)
 }

@@ -91,7 +91,7 @@ fn join(frame: &mut [i16], energy: i32, held: i32)
 }
 
 // What a lost frame leaves: its energy.
-fn leave_energy(h: SilkPLCState, frame: &[i16]) -> SilkPLCState
+pub fn leave_energy(h: SilkPLCState, frame: &[i16]) -> SilkPLCState
     requires { ⌜ (1 ≤ length (now frame)) × (length (now frame) ≤ 320) ⌝ }
     ensures { λ r. ⌜ r ≡ holdEnergy h (pos 1) (pos (energyAt (now (frame .entry)) (energyShift (now (frame .entry))))) (pos (energyShift (now (frame .entry)))) ⌝ }
 {
@@ -104,7 +104,7 @@ fn leave_energy(h: SilkPLCState, frame: &[i16]) -> SilkPLCState
 }
 
 // A received frame is joined if the last was lost.
-fn receive(h: SilkPLCState, frame: &mut [i16]) -> SilkPLCState
+pub fn receive(h: SilkPLCState, frame: &mut [i16]) -> SilkPLCState
     requires { ⌜ (1 ≤ length (now frame)) × (length (now frame) ≤ 320) × (h .«conc_energy» ≡ pos (natAbs (h .«conc_energy»))) × (h .«conc_energy_shift» ≡ pos (natAbs (h .«conc_energy_shift»))) × (natAbs (h .«conc_energy_shift») ≤ 31) ⌝ }
     ensures { λ r. ⌜ (r ≡ holdEnergy h (pos 0) (h .«conc_energy») (h .«conc_energy_shift»))
         × (now (frame .exit) ≡ cond (eqℤ (h .«last_frame_lost») (pos 0)) (now (frame .entry)) (joined (h .«conc_energy») (h .«conc_energy_shift») (now (frame .entry)))) ⌝ }
@@ -118,7 +118,7 @@ fn receive(h: SilkPLCState, frame: &mut [i16]) -> SilkPLCState
     t
 }
 
-pub fn glue_frames(s: SilkDecoderState, frame: &mut [i16]) -> SilkDecoderState
+fn glue_frames(s: SilkDecoderState, frame: &mut [i16]) -> SilkDecoderState
     requires { ⌜ (1 ≤ length (now frame)) × (length (now frame) ≤ 320) × (s .«s_plc» .«conc_energy» ≡ pos (natAbs (s .«s_plc» .«conc_energy»))) × (s .«s_plc» .«conc_energy_shift» ≡ pos (natAbs (s .«s_plc» .«conc_energy_shift»))) × (natAbs (s .«s_plc» .«conc_energy_shift») ≤ 31) ⌝ }
     ensures { λ r. ⌜ (r ≡ glueFrames s (now (frame .entry)) .state) × (now (frame .exit) ≡ glueFrames s (now (frame .entry)) .frame) ⌝ }
 {

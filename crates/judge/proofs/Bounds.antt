@@ -26,7 +26,9 @@ use Rattle.decoder.specs.declared.SilkDecoderControl.{SilkDecoderControl}
 use Rattle.decoder.specs.declared.Params.{Params}
 use Rattle.judge.specs.Taps.{tapSum, tapsFit}
 use Rattle.judge.specs.Rows.{signalRow, gainRow, lagRow, tapsRow, lengthRow, paramRows, receivedRows, lostRows, coreRows, plcReceivedRows, glueRows, cngRows}
-use Rattle.judge.proofs.Between.{Between, both, neither, only, between, all-between}
+use Rattle.word.proofs.Rows.{both}
+use Rattle.decoder.proofs.Between.{Between, only, between, all-between}
+use Rattle.judge.proofs.Ends.{neither}
 use Rattle.judge.proofs.Sums.{each-fits}
 
 -- ---- rows 5 to 8

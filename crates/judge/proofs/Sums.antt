@@ -16,7 +16,7 @@ use Rattle.word.proofs.Sizes.{abs-add, abs-fits, fits-abs}
 use Rattle.word.proofs.Words.{wrap-id, wrap-add-l}
 use Rattle.decoder.specs.Ranges.{within}
 use Rattle.judge.specs.Taps.{tapSum, tapsFit}
-use Rattle.judge.proofs.Between.{both}
+use Rattle.word.proofs.Rows.{both}
 
 -- a word more, added to a sum that was wrapped
 more : (r s x : ℤ) → r ≡ wrap32 s → wrap32 (r +ℤ x) ≡ wrap32 (s +ℤ x)

@@ -239,80 +239,36 @@ fn numbers(s: SilkDecoderState) -> [i32; 20]
     ]
 }
 
-// A state's words in seven runs, one after the other.
-fn put_runs(
-    words: &mut [i32],
-    gain: &[i32; 1],
-    exc: &[i32; 320],
-    lpc: &[i32; 16],
-    numbers: &[i32; 20],
-    noise: &[i32; 320],
-    synth: &[i32; 16],
-    last: &[i32; 3],
-)
-    requires { ⌜ 696 ≤ length (now words) ⌝ }
-    ensures { λ _. ⌜ now (words .exit) ≡ putAt (now (words .entry)) 0
-        (now (gain .entry) ++ now (exc .entry) ++ now (lpc .entry) ++ now (numbers .entry) ++ now (noise .entry) ++ now (synth .entry) ++ now (last .entry)) ⌝ }
-{
-    copy32_at(words, 0, gain);
-    copy32_at(words, 1, exc);
-    copy32_at(words, 321, lpc);
-    copy32_at(words, 337, numbers);
-    copy32_at(words, 357, noise);
-    copy32_at(words, 677, synth);
-    copy32_at(words, 693, last);
-}
-
 pub fn put_words(s: SilkDecoderState, words: &mut [i32])
     requires { ⌜ 696 ≤ length (now words) ⌝ }
     ensures { λ _. ⌜ now (words .exit) ≡ putAt (now (words .entry)) 0 (stateWords s) ⌝ }
 {
     let gain = [s.prev_gain_q16];
-    let exc = s.exc_q14;
-    let lpc = s.s_lpc_q14_buf;
     let numbers = numbers(s);
     let h = s.s_cng;
-    let noise = h.cng_exc_buf_q14;
-    let synth = h.cng_synth_state;
     let last = [h.cng_smth_gain_q16, h.rand_seed, h.fs_khz];
-    put_runs(words, &gain, &exc, &lpc, &numbers, &noise, &synth, &last);
-}
-
-// A state's halves in six runs.
-fn put_half_runs(
-    halves: &mut [i16],
-    out: &[i16; 480],
-    nlsf: &[i16; 16],
-    taps: &[i16; 5],
-    lpc: &[i16; 16],
-    scales: &[i16; 2],
-    noise: &[i16; 16],
-)
-    requires { ⌜ 535 ≤ length (now halves) ⌝ }
-    ensures { λ _. ⌜ now (halves .exit) ≡ putAt (now (halves .entry)) 0
-        (now (out .entry) ++ now (nlsf .entry) ++ now (taps .entry) ++ now (lpc .entry) ++ now (scales .entry) ++ now (noise .entry)) ⌝ }
-{
-    copy16_at(halves, 0, out);
-    copy16_at(halves, 480, nlsf);
-    copy16_at(halves, 496, taps);
-    copy16_at(halves, 501, lpc);
-    copy16_at(halves, 517, scales);
-    copy16_at(halves, 519, noise);
+    copy32_at(words, 0, &gain);
+    copy32_at(words, 1, &s.exc_q14);
+    copy32_at(words, 321, &s.s_lpc_q14_buf);
+    copy32_at(words, 337, &numbers);
+    copy32_at(words, 357, &h.cng_exc_buf_q14);
+    copy32_at(words, 677, &h.cng_synth_state);
+    copy32_at(words, 693, &last);
 }
 
 pub fn put_halves(s: SilkDecoderState, halves: &mut [i16])
     requires { ⌜ 535 ≤ length (now halves) ⌝ }
     ensures { λ _. ⌜ now (halves .exit) ≡ putAt (now (halves .entry)) 0 (stateHalves s) ⌝ }
 {
-    let out = s.out_buf;
-    let nlsf = s.prev_nlsf_q15;
     let plc = s.s_plc;
-    let taps = plc.ltp_coef_q14;
-    let lpc = plc.prev_lpc_q12;
     let scales = [plc.rand_scale_q14, plc.prev_ltp_scale_q14];
     let cng = s.s_cng;
-    let noise = cng.cng_smth_nlsf_q15;
-    put_half_runs(halves, &out, &nlsf, &taps, &lpc, &scales, &noise);
+    copy16_at(halves, 0, &s.out_buf);
+    copy16_at(halves, 480, &s.prev_nlsf_q15);
+    copy16_at(halves, 496, &plc.ltp_coef_q14);
+    copy16_at(halves, 501, &plc.prev_lpc_q12);
+    copy16_at(halves, 517, &scales);
+    copy16_at(halves, 519, &cng.cng_smth_nlsf_q15);
 }
 
 fn put_three(control: &mut [i32], lags: &[i32; 4], gains: &[i32; 4], scale: &[i32; 1])

@@ -69,6 +69,10 @@ plcUpdated p voiced c row h =
     (pos (p .subframes))
     (pos (subfrLength p))
 
+-- what is held after a received frame
+abbrev pub updatedBy : Shape → Signal → SilkDecoderControl → List (List ℤ) → SilkPLCState → SilkPLCState
+updatedBy p signal c rows held = plcUpdated p (isVoiced signal) c (getD rows 1 []) (plcReady p held)
+
 -- silk_plc for a received frame
 unfoldable pub plcUpdate : Shape → SilkDecoderState → Signal → SilkDecoderControl → List (List ℤ) → SilkDecoderState
 plcUpdate p s signal c rows =
@@ -77,4 +81,4 @@ plcUpdate p s signal c rows =
     (s .«s_cng»)
     (s .«loss_cnt»)
     (signalNumber signal)
-    (plcUpdated p (isVoiced signal) c (getD rows 1 []) (plcReady p (s .«s_plc»)))
+    (updatedBy p signal c rows (s .«s_plc»))

@@ -14,12 +14,13 @@ use macros::silk_smulbb;
 use macros::silk_smulww;
 use shape::Rate;
 use sigproc::Energy;
-use sigproc::copy16_at;
 use sigproc::silk_sum_sqr_shift;
+use sigproc::with_front;
 use word::low16;
 use word::sat16;
 use word::shl32;
 use word::shr32;
+use word::wide8;
 ghost use mathlib.Core.Path.{_≡_};
 ghost use mathlib.Core.List.{[], _∷_, _++_};
 ghost use Prim.Native.Nat.{_+_, _-_, _*_, _^_, _≤_, _<_};
@@ -30,9 +31,10 @@ ghost use Rattle.word.specs.Int.{sat16, wrap16, floorDiv, modℤ, maxℤ};
 ghost use Rattle.macros.specs.Fixed.{smulww, smulbb};
 ghost use Rattle.sigproc.specs.Energy.{sumSqrShift};
 ghost use Rattle.shape.specs.Shape.{shape, countOf};
+ghost use Rattle.decoder.specs.Signals.{signalNumber};
 ghost use Rattle.decoder.specs.State.{shapeOf};
 ghost use Rattle.plc.specs.Hold.{plcReady};
-ghost use Rattle.plc.specs.Update.{stronger, strongest, scaledTap, pulseOf, middle, plcUpdated, plcUpdate};
+ghost use Rattle.plc.specs.Update.{stronger, strongest, scaledTap, pulseOf, middle, plcUpdated, updatedBy, plcUpdate};
 ghost use Rattle.plc.specs.Answer.{plcReceived};
 ghost use Rattle.plc.specs.Conceal.{heardBy, olderSmaller, placeFrom};
 
@@ -213,16 +215,6 @@ fn middle(tap: i16) -> [i16; 5]
     [0, 0, tap, 0, 0]
 }
 
-// The first d coefficients of a row, and the others as they were.
-fn new_lpc(old: [i16; 16], row: [i16; 16], d: usize) -> [i16; 16]
-    requires { ⌜ d ≤ 16 ⌝ }
-    ensures { λ r. ⌜ r ≡ take d row ++ drop d old ⌝ }
-{
-    let mut lpc = old;
-    copy16_at(&mut lpc, 0, &row[..d]);
-    lpc
-}
-
 // The last two of n gains.
 fn last_gains(gains: [i32; 4], n: usize) -> [i32; 2]
     requires { ⌜ (2 ≤ n) × (n ≤ 4) ⌝ }
@@ -247,7 +239,7 @@ pub fn plc_updated(
     let lpc = h.prev_lpc_q12;
     let gains = c.gains_q16;
     let taps = middle(b.tap);
-    let coefs = new_lpc(lpc, row, Rate::lpc_order(khz));
+    let coefs = with_front(lpc, row, Rate::lpc_order(khz));
     let last = last_gains(gains, n);
     let mut t = h;
     t.pitch_l_q8 = b.pitch;
@@ -260,14 +252,31 @@ pub fn plc_updated(
     t
 }
 
-// The same number, in 32 bits.
-fn wide8(a: i8) -> i32
-    ensures { λ r. ⌜ r ≡ a ⌝ }
+// What concealment holds after a received frame.
+pub fn received(
+    held: SilkPLCState,
+    khz: i32,
+    nb_subfr: i32,
+    signal: Signal,
+    c: SilkDecoderControl,
+    rows: [[i16; 16]; 2],
+) -> SilkPLCState
+    requires { ⌜ 2 ≤ countOf «nb_subfr» ⌝ }
+    ensures { λ r. ⌜ r ≡ updatedBy (shape khz «nb_subfr») signal c rows held ⌝ }
 {
-    a as i32
+    let row = rows[1];
+    let h = ready(held, shape::rate_of(khz), shape::count_of(nb_subfr));
+    plc_updated(h, khz, nb_subfr, is_voiced(signal), c, row)
 }
 
-pub fn plc_update(
+// The number of a signal type, in 32 bits.
+pub fn type_number(signal: Signal) -> i32
+    ensures { λ r. ⌜ r ≡ signalNumber signal ⌝ }
+{
+    wide8(signal_number(signal))
+}
+
+fn plc_update(
     s: SilkDecoderState,
     signal: Signal,
     c: SilkDecoderControl,
@@ -276,14 +285,10 @@ pub fn plc_update(
     requires { ⌜ 2 ≤ countOf (s .«nb_subfr») ⌝ }
     ensures { λ r. ⌜ r ≡ plcUpdate (shapeOf s) s signal c rows ⌝ }
 {
-    let khz = s.fs_khz;
-    let nb = s.nb_subfr;
-    let row = rows[1];
     let held = s.s_plc;
-    let h = ready(held, shape::rate_of(khz), shape::count_of(nb));
-    let p = plc_updated(h, khz, nb, is_voiced(signal), c, row);
+    let p = received(held, s.fs_khz, s.nb_subfr, signal, c, rows);
     let mut t = s;
-    t.prev_signal_type = wide8(signal_number(signal));
+    t.prev_signal_type = type_number(signal);
     t.s_plc = p;
     t
 }

@@ -1,9 +1,8 @@
 // The functions that a Rust or C program links.
 use cng::silk_cng;
 use decode_core::silk_decode_core;
-use decode_frame::FrameAnswer;
-use decode_frame::silk_decode_frame;
-use decoder::Frame;
+use decode_frame::lost_frame;
+use decode_frame::received_frame;
 use decoder::Params;
 use decoder::SilkDecoderControl;
 use decoder::SilkDecoderState;
@@ -124,36 +123,6 @@ fn short_lines(
     ensures { λ r. ⌜ r ≡ ((((ltb words 696 || ltb halves 535) || (ltb control 9 || ltb taps 20)) || ltb rows 32) || ltb lines 16) ⌝ }
 {
     either(short_frame(words, halves, control, taps, rows), lines < 16)
-}
-
-fn no_lines() -> [i16; 16]
-    ensures { λ r. ⌜ r ≡ replicate 16 (pos 0) ⌝ }
-{
-    [0; 16]
-}
-
-fn lost_frame(s: SilkDecoderState, c: SilkDecoderControl, xq: &mut [i16]) -> FrameAnswer
-    ensures { λ r. ⌜ (r ≡ frameAnswer s Lost c [] [] [] (now (xq .entry))) × (now (xq .exit) ≡ frameOutput s Lost c [] [] [] (now (xq .entry))) ⌝ }
-{
-    let lines = no_lines();
-    let rows = [lines, lines];
-    let frame = Frame::Lost;
-    silk_decode_frame(s, frame, c, rows, lines, &lines[..0], xq)
-}
-
-fn received_frame(
-    s: SilkDecoderState,
-    q: Params,
-    c: SilkDecoderControl,
-    rows: [[i16; 16]; 2],
-    lines: [i16; 16],
-    pulses: &[i16],
-    xq: &mut [i16],
-) -> FrameAnswer
-    ensures { λ r. ⌜ (r ≡ frameAnswer s (Received q) c rows lines (now (pulses .entry)) (now (xq .entry))) × (now (xq .exit) ≡ frameOutput s (Received q) c rows lines (now (pulses .entry)) (now (xq .entry))) ⌝ }
-{
-    let frame = Frame::Received(q);
-    silk_decode_frame(s, frame, c, rows, lines, pulses, xq)
 }
 
 fn params(signal: i8, offset: i8, interpolation: i8, seed: i8) -> Params

@@ -1,6 +1,5 @@
 // Runs the judges over the cases of standard input: each end of each range of document 01 from inside and from outside.
 mod change;
-mod line;
 
 use change::Input;
 use change::changed;
@@ -168,7 +167,7 @@ fn answer(who: i32, khz: i32, nb_subfr: i32, x: Input) -> i32 {
 }
 
 // A case gives what is due.
-fn right(row: [i32; 8]) -> bool {
+fn right(row: [i32; 64]) -> bool {
     let khz = row[2];
     let nb_subfr = row[3];
     let x = changed(input(khz, nb_subfr), row[4], row[5]);

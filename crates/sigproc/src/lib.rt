@@ -19,7 +19,7 @@ use word::sub32;
 use word::wide16;
 ghost use mathlib.Core.Path.{_≡_};
 ghost use mathlib.Core.Logic.{_⊎_};
-ghost use mathlib.Core.List.{map};
+ghost use mathlib.Core.List.{map, _++_};
 ghost use Prim.Native.Nat.{_+_, _-_, _*_, _%_, _^_, _≤_, _<_};
 ghost use lib.IntN.{natAbs, _*ℤ_};
 ghost use lib.ListN.{length, take, drop};
@@ -48,6 +48,16 @@ pub fn copy32_at(dst: &mut [i32], at: usize, src: &[i32])
     for i in 0..src.len() {
         dst[at + i] = src[i];
     }
+}
+
+// The first d numbers new, and the others as they were held.
+pub fn with_front(held: [i16; 16], new: [i16; 16], d: usize) -> [i16; 16]
+    requires { ⌜ d ≤ 16 ⌝ }
+    ensures { λ r. ⌜ r ≡ take d new ++ drop d held ⌝ }
+{
+    let mut r = held;
+    copy16_at(&mut r, 0, &new[..d]);
+    r
 }
 
 // The buffer rotated by a frame's length, and the frame at the end of a history of mem samples.

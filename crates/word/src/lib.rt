@@ -12,7 +12,13 @@ pub fn wide(a: i32) -> i64
     a as i64
 }
 
-// The same number, in 32 bits.
+// The same number, in 32 bits; so below.
+pub fn wide8(a: i8) -> i32
+    ensures { λ r. ⌜ r ≡ a ⌝ }
+{
+    a as i32
+}
+
 pub fn wide16(a: i16) -> i32
     ensures { λ r. ⌜ r ≡ a ⌝ }
 {

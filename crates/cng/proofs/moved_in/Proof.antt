@@ -30,7 +30,7 @@ mul-m : tie.Need-mul-m
 mul-m c = omega (arith, fit c)
 
 mul-copy32-at : tie.Need-mul-copy32-at
-mul-copy32-at c = omega (arith, fit (c .before))
+mul-copy32-at c = omega (arith, fit (c .before .before))
 
 part-copy32-at-end : tie.Need-part-copy32-at-end
 part-copy32-at-end c = omega (arith, fit (c .before .before))
@@ -52,7 +52,7 @@ returns c =
     let s = one .before .before .before .before in
     let a = s .args in
     rw (c .before .copy32-at2 .ensures, one .copy32-at .ensures, add-sub-cancel-left (a .k * a .l) (a .l))
-    (moved (a .t1) (a .t2) (a .l) (a .n) (a .k) (search needs) (search needs) (s .pre .2) (s .pre .1) (s .pre .0))
+    (moved (a .t1) (a .exc .now) (a .l) (a .n) (a .k) (search needs) (search needs) (s .pre .2) (s .pre .1) (s .pre .0))
 
 pub moved-in-spec : {M : Type 1} → statement M
 moved-in-spec =

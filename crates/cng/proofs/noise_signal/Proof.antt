@@ -18,7 +18,7 @@ use Rattle.cng.proofs.noise_signal.Statement.{statement}
 use Rattle.cng.proofs.noise_signal.Tie as tie
 
 -- the memory has 16 places
-sixteen : (s : tie.Start) → length (s .args .h .«cng_synth_state») ≡ 16
+sixteen : (s : tie.Start) → length (s .args .t2 .«cng_synth_state») ≡ 16
 sixteen s = search needs
 
 copy32-at-requires : tie.Need-copy32-at-requires
@@ -32,11 +32,11 @@ unfolding noiseSignal
 returns c =
     let f = c .before .before .before .before in
     let u = f .before .before in
-    let t = u .before in
-    let m = t .before in
-    let one = m .before .before .before .before in
-    let s = one .before .before .before .before .before .before in
-    let h = s .args .h in
+    let m = u .before in
+    let one = m .before .before .before .before .before in
+    let t = one .before .before .before in
+    let s = t .before .before .before in
+    let h = s .args .t2 in
     let buf = s .args .buf .now in
     let n = length buf - 16 in
     let exc = drawn (h .«cng_exc_buf_q14») (excMask n) (h .«rand_seed») n in

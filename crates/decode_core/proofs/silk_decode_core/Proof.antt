@@ -20,8 +20,8 @@ returns c =
     let was = ne-eqb (refusalNumber (firstOf (coreRows (a .s) (a .q) (a .c) (length (a .pulses .now)) (length (a .xq .now))))) 0 (λ e. c .if1 .taken (n .number .ensures ∙ ap refusalNumber (j .core .ensures) ∙ e)) in
     (rw (was, j .core .ensures), rw was)
 
-decode-core-requires : tie.Need-decode-core-requires
-decode-core-requires c κs =
+decoded-requires : tie.Need-decoded-requires
+decoded-requires c κs =
     let n = c .before .before in
     let j = n .before in
     let a = j .before .args in
@@ -37,9 +37,9 @@ returns-2 c =
     let j = n .before in
     let a = j .before .args in
     let ok = eq-eqb (refusalNumber (firstOf (coreRows (a .s) (a .q) (a .c) (length (a .pulses .now)) (length (a .xq .now))))) 0 (sym (n .number .ensures ∙ ap refusalNumber (j .core .ensures)) ∙ t .if1 .left) in
-    (rw (ok, j .core .ensures, d .decode-core .ensures .0, d .decode-core .ensures .1), rw (ok, d .decode-core .ensures .2))
+    (rw (ok, j .core .ensures, d .decoded .ensures .0, d .decoded .ensures .1), rw (ok, d .decoded .ensures .2))
 
 pub silk-decode-core-spec : {M : Type 1} → statement M
 silk-decode-core-spec =
     tie.close
-    (tie.spec (λ c κs. search needs) (λ c κs. search needs) returns decode-core-requires (λ c. search needs) returns-2)
+    (tie.spec (λ c κs. search needs) (λ c κs. search needs) returns decoded-requires (λ c. search needs) returns-2)

@@ -1,69 +1,72 @@
-use Prim.Native.Nat.{_≤_}
-use mathlib.Core.Path.{_≡_, _∙_, sym, ap, subst}
+use Prim.Native.Nat.{_-_, _≤_}
+use mathlib.Core.Path.{_≡_, ap, _∙_}
 use native.Mathlib.Omega.{arith}
 use borrow.Author.Needs.{needs}
-use lib.IntN.{pos, natAbs}
-use lib.ListN.{length}
-use Rattle.shape.specs.Shape.{isCount}
-use Rattle.shape.proofs.Shapes.{shaped, frame-le}
-use Rattle.decoder.specs.Outcome.{Outcome, Framed}
+use lib.IntN.{pos}
+use lib.ListN.{length, getD}
+use mir.Syntax.{w16, w32}
+use mir.Val.{toZ, ofZ}
+use Rattle.word.proofs.Words.{kept}
+use Rattle.sigproc.specs.Energy.{energyAt, energyShift}
+use Rattle.shape.specs.Shape.{frameLength, lpcOrder, countOf}
+use Rattle.shape.proofs.Shapes.{shaped, frame-le, counts, count-range}
+use Rattle.decoder.specs.Outcome.{Outcome, build}
 use Rattle.decoder.specs.State.{shapeOf}
-use Rattle.cng.specs.Noise.{comfortNoise}
-use Rattle.glue.specs.Glue.{glueFrames}
-use Rattle.decode_frame.specs.WholeFrame.{finished, lagKept}
-use Rattle.decode_frame.proofs.Noised.{glued, noised-plc, noised-shape, noised-count, glued-count, lag-after}
+use Rattle.cng.specs.Noise.{cngReady, sounding, sounded}
+use Rattle.glue.specs.Glue.{holdEnergy}
+use Rattle.decode_frame.proofs.Heard.{sound, faded, faded-is}
 use Rattle.decode_frame.proofs.finished.Statement.{statement}
 use Rattle.decode_frame.proofs.finished.Tie as tie
 
-comfort-noise-requires : tie.Need-comfort-noise-requires
-comfort-noise-requires c κs =
-    let a = c .before .before .before in
-    (a .pre .0, a .pre .1, a .pre .2, omega (arith, a .pre .3, frame-le (a .args .s .«fs_khz») (a .args .s .«nb_subfr»)))
+khz : (c : tie.After-struct-told2) → let s = c .before .before .before .before .before .before .before .args .s in toZ w32 (ofZ w32 (s .«fs_khz»)) ≡ s .«fs_khz»
+khz c = kept w32 _ (c .struct-told2 .given .1 .1 .1 .1 .1 .0 .1)
 
--- what concealment holds after noise is what it held before
-plc-kept : (c : tie.After-comfort-noise) → c .comfort-noise .result .«s_plc» ≡ c .before .before .before .before .args .s .«s_plc»
-plc-kept c = ap (λ (f : Framed). f .state .«s_plc») (c .comfort-noise .ensures) ∙ noised-plc _ _ _ _ _
+lost-requires : tie.Need-lost-requires
+lost-requires c κs =
+    let a = c .before .before .before .before .before .before .before in
+    rw (khz c) (a .pre .0, a .pre .2, omega (arith, a .pre .3, frame-le (a .args .s .«fs_khz») (a .args .s .«nb_subfr»)))
 
-glue-frames-requires : tie.Need-glue-frames-requires
-glue-frames-requires c κs =
+leave-energy-requires : tie.Need-leave-energy-requires
+leave-energy-requires c κs =
     let n = c .before .before in
-    let a = n .before .before .before .before in
+    let a = n .before .before .before .before .before .before .before .before in
     let h = shaped _ _ (a .pre .0) (a .pre .1) in
-    let e = sym (plc-kept n) in (
-      omega (arith, n .comfort-noise .kept, a .pre .3, h .frame-low, h .rate-low),
-      omega (arith, n .comfort-noise .kept, a .pre .3, frame-le (a .args .s .«fs_khz») (a .args .s .«nb_subfr»)),
-      subst (λ h. h .«conc_energy» ≡ pos (natAbs (h .«conc_energy»))) e (a .pre .4),
-      subst (λ h. h .«conc_energy_shift» ≡ pos (natAbs (h .«conc_energy_shift»))) e (a .pre .5),
-      subst (λ h. natAbs (h .«conc_energy_shift») ≤ 31) e (a .pre .6),
-    )
+    (omega (arith, n .lost .kept, a .pre .3, h .frame-low, h .rate-low), omega (arith, n .lost .kept, a .pre .3, frame-le (a .args .s .«fs_khz») (a .args .s .«nb_subfr»)))
 
-lag-kept-requires : tie.Need-lag-kept-requires
-lag-kept-requires c κs =
-    let g = c .before in
-    let n = g .before .before .before in
-    let a = n .before .before .before .before in
-    let e = ap (λ s. s .«nb_subfr») (g .glue-frames .ensures .0) ∙ glued-count _ _ ∙ ap (λ (f : Framed). f .state .«nb_subfr») (n .comfort-noise .ensures) ∙ noised-count _ _ _ _ _ in
-    ap isCount e ∙ a .pre .1
+count : (c : tie.After-count-of) → let s = c .before .before .before .before .before .before .before .before .before .before .before .before .before .args .s in c .count-of .result ≡ countOf (s .«nb_subfr»)
+count c = c .count-of .ensures ∙ ap countOf (kept w32 _ (c .before .struct-told3 .given .1 .1 .1 .1 .1 .1 .0 .1))
 
-same-length : tie.Need-same-length
-same-length c = search needs
+some : (c : tie.After-count-of) → (2 ≤ c .count-of .result) × (c .count-of .result ≤ 4)
+some c = rw (count c) (count-range (counts _ (c .before .before .before .before .before .before .before .before .before .before .before .before .before .pre .1)))
 
 returns : tie.Need-returns
-unfolding finished
 returns c =
-    let g = c .before .before .glue-frames in
-    let n = c .before .before .before .before .before in
-    let a = n .before .before .before .before in
-    let s = a .args .s in
-    let d = a .args .c in
-    let x = a .args .xq .now in
-    let shape = ap (λ (f : Framed). shapeOf (f .state)) (n .comfort-noise .ensures) ∙ noised-shape _ _ _ _ _ in
-    let lag = c .lag-kept .ensures ∙ ap (λ t. lagKept (shapeOf t) t d) (g .ensures .0) ∙ lag-after s _ d _ shape in
-    let noise = n .comfort-noise .ensures ∙ ap (λ m. comfortNoise (shapeOf s) s (d .«gains_q16») m x) (a .pre .3) in
-    let out : Outcome → Outcome = λ o. o in
-    _∙_ (λ i. record { state = lag i; control = d; samples = g .ensures .1 i }) (ap (glued (shapeOf s) d) noise)
+    let k = c .before in
+    let l = k .before .before in
+    let n = l .before .before .before in
+    let t = n .before in
+    let g = t .before .before in
+    let b = g .before .before .before .before .before in
+    let a = b .args in
+    let s = a .s in
+    let p = shapeOf s in
+    let x = a .xq .now in
+    let h = cngReady (p .rate) (s .«s_cng») in
+    let y = sound p s (a .c) x in
+    let noise : n .lost .result ≡ sounded (lpcOrder p) h (frameLength p) = rw (n .lost .ensures .0, khz t, b .pre .3) in
+    let heard : n .lost .last .1 .1 .1 .1 .0 ≡ y = rw (n .lost .ensures .1, khz t, b .pre .3, kept w16 (s .«s_plc» .«rand_scale_q14») (g .before .struct-told .given .1 .1 .1 .1 .1 .0 .1), kept w32 (getD (s .«s_plc» .«prev_gain_q16») 1 (pos 0)) (g .lost-arg .given)) in
+    let left = l .leave-energy .ensures ∙ λ i. holdEnergy (s .«s_plc») (pos 1) (pos (energyAt (heard i) (energyShift (heard i)))) (pos (energyShift (heard i))) in
+    let lag = kept w32 (getD (a .c .«pitch_l») (k .count-of .result - 1) (pos 0)) (c .t .given) ∙ ap (λ n. getD (a .c .«pitch_l») (n - 1) (pos 0)) (count k) in
+    let one : _≡_ {A = Outcome} (record { state = _; control = a .c; samples = n .lost .last .1 .1 .1 .1 .0 }) (faded p s (a .c) x) =
+    λ i. record {
+      state = build s (s .«prev_gain_q16») (s .«exc_q14») (s .«s_lpc_q14_buf») (s .«out_buf») (lag i) (s .«prev_nlsf_q15») (s .«first_frame_after_reset») (noise i) (s .«loss_cnt») (s .«prev_signal_type») (left i);
+      control = a .c;
+      samples = heard i;
+    } in
+    one ∙ faded-is p s (a .c) x (b .pre .4)
 
 pub finished-spec : {M : Type 1} → statement M
 finished-spec =
     tie.close
-    (tie.spec comfort-noise-requires glue-frames-requires lag-kept-requires same-length returns)
+    (tie.spec (λ c. search needs) lost-requires leave-energy-requires (λ c κs. tt) (λ c. omega (arith, some c)) (λ c. omega (arith, some c))
+    (λ c. omega (arith, some c)) (λ c. search needs) returns)

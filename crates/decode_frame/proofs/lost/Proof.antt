@@ -1,14 +1,20 @@
+use Prim.Native.Nat.{_+_}
 use mathlib.Core.Path.{_≡_, refl, sym, ap, _∙_}
 use native.Mathlib.Omega.{arith}
 use borrow.Author.Needs.{needs}
+use mathlib.Core.Bool.{false}
+use lib.IntN.{pos, natAbs, _+ℤ_}
 use lib.ListN.{length}
+use Rattle.word.specs.Int.{eqℤ}
+use Rattle.word.proofs.Order.{eqℤ-ne}
 use Rattle.shape.specs.Shape.{shape, isRate, isCount, rateOf, frameLength}
+use Rattle.decoder.specs.Ranges.{cngFits}
 use Rattle.decoder.specs.State.{shapeOf}
 use Rattle.decoder.proofs.Between.{natural-back}
-use Rattle.decoder.proofs.Bounds.{bounds, plc-fits}
-use Rattle.plc.specs.Conceal.{heldAfter, plcConceal}
+use Rattle.decoder.proofs.Bounds.{bounds, plc-fits, cng-fits}
+use Rattle.plc.specs.Conceal.{plcConceal}
 use Rattle.decode_frame.specs.WholeFrame.{remembered, finished, lost}
-use Rattle.decode_frame.proofs.Noised.{all-samples, finishable, ready-energy}
+use Rattle.decode_frame.proofs.Noised.{all-samples}
 use Rattle.decode_frame.proofs.lost.Statement.{statement}
 use Rattle.decode_frame.proofs.lost.Tie as tie
 
@@ -37,18 +43,18 @@ remembered-requires c κs =
     let l : frameLength (shapeOf (o .plc-conceal .result .state)) ≡ frameLength (shapeOf s) = λ i. frameLength (shape (khz o i) (nb o i)) in
     (ap isRate (khz o) ∙ b .sizes .rate, ap isCount (nb o) ∙ b .sizes .count, omega (arith, o .plc-conceal .kept, a .pre .2, l))
 
--- what concealment leaves of noise and of gluing
+-- what concealment leaves of noise, and one loss more
 cng : (c : tie.After-plc-conceal) → c .plc-conceal .result .state .«s_cng» ≡ c .before .before .args .s .«s_cng»
 unfolding plcConceal
 cng c = ap (λ r. r .state .«s_cng») (c .plc-conceal .ensures .0)
 
-energy : (c : tie.After-plc-conceal) → c .plc-conceal .result .state .«s_plc» .«conc_energy» ≡ c .before .before .args .s .«s_plc» .«conc_energy»
-unfolding plcConceal heldAfter
-energy c = ap (λ r. r .state .«s_plc» .«conc_energy») (c .plc-conceal .ensures .0) ∙ ready-energy _ _ .0
-
-shift : (c : tie.After-plc-conceal) → c .plc-conceal .result .state .«s_plc» .«conc_energy_shift» ≡ c .before .before .args .s .«s_plc» .«conc_energy_shift»
-unfolding plcConceal heldAfter
-shift c = ap (λ r. r .state .«s_plc» .«conc_energy_shift») (c .plc-conceal .ensures .0) ∙ ready-energy _ _ .1
+loss : (c : tie.After-plc-conceal) → eqℤ (c .plc-conceal .result .state .«loss_cnt») (pos 0) ≡ false
+unfolding plcConceal
+loss c =
+    let s = c .before .before .args .s in
+    let b = bounds (rateOf (s .«fs_khz»)) s (c .before .before .pre .0) in
+    ap (λ r. eqℤ (r .state .«loss_cnt») (pos 0)) (c .plc-conceal .ensures .0) ∙ ap (λ n. eqℤ (n +ℤ pos 1) (pos 0)) (b .decoder .«loss_cnt»)
+    ∙ eqℤ-ne (pos (natAbs (s .«loss_cnt») + 1)) (pos 0) (λ e. let z : natAbs (s .«loss_cnt») + 1 ≡ 0 = ap natAbs e in omega arith)
 
 finished-requires : tie.Need-finished-requires
 unfolding remembered
@@ -56,9 +62,17 @@ finished-requires c κs =
     let r = c .before .remembered .ensures in
     let o = c .before .before .before .before .before .before in
     let a = o .before .before in
-    let x = o .plc-conceal .last .1 .1 .0 in
-    let l : length x ≡ frameLength (shapeOf (a .args .s)) = omega (arith, o .plc-conceal .kept, a .pre .2) in
-    finishable (a .args .s) (c .before .remembered .result) x (a .pre .0) (ap (λ t. t .«fs_khz») r ∙ khz o) (ap (λ t. t .«nb_subfr») r ∙ nb o) (ap (λ t. t .«s_cng») r ∙ cng o) (ap (λ t. t .«s_plc» .«conc_energy») r ∙ energy o) (ap (λ t. t .«s_plc» .«conc_energy_shift») r ∙ shift o) l
+    let s = a .args .s in
+    let b = bounds (rateOf (s .«fs_khz»)) s (a .pre .0) in
+    let khz′ = ap (λ t. t .«fs_khz») r ∙ khz o in
+    let nb′ = ap (λ t. t .«nb_subfr») r ∙ nb o in
+    let l : frameLength (shapeOf (c .before .remembered .result)) ≡ frameLength (shapeOf s) = λ i. frameLength (shape (khz′ i) (nb′ i)) in (
+      ap isRate khz′ ∙ b .sizes .rate,
+      ap isCount nb′ ∙ b .sizes .count,
+      (λ i. cngFits (rateOf (khz′ i)) ((ap (λ t. t .«s_cng») r ∙ cng o) i)) ∙ cng-fits (rateOf (s .«fs_khz»)) (s .«s_cng») (b .cng),
+      omega (arith, o .plc-conceal .kept, a .pre .2, l),
+      ap (λ t. eqℤ (t .«loss_cnt») (pos 0)) r ∙ loss o,
+    )
 
 same-length : tie.Need-same-length
 same-length c = search needs

@@ -1,7 +1,7 @@
 use mathlib.Core.Path.{sym, _∙_}
 use lib.IntN.{pos}
 use Rattle.word.proofs.Order.{lt-read-l}
-use Rattle.judge.proofs.Between.{below, upper}
+use Rattle.judge.proofs.Ends.{below, upper}
 use Rattle.judge.proofs.is_offset.Statement.{statement}
 use Rattle.judge.proofs.is_offset.Tie as tie
 

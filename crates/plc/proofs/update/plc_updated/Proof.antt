@@ -67,7 +67,7 @@ returns c =
     let pitch = kept w32 (b .pitch) (o .before .before .struct-told3 .given .1 .0 .1) ∙ ap (λ (x : Pulse). x .pitch) f in
     let tap = kept w16 (b .tap) (m .before .struct-told2 .given .0 .1) ∙ ap (λ (x : Pulse). x .tap) f in
     let taps = m .middle .ensures ∙ ap middle tap in
-    let lpc = l .new-lpc .ensures ∙ ap (λ (d : ℕ). take d (a .args .row) ++ drop d (h .«prev_lpc_q12»)) (order (l .before)) in
+    let lpc = l .with-front .ensures ∙ ap (λ (d : ℕ). take d (a .args .row) ++ drop d (h .«prev_lpc_q12»)) (order (l .before)) in
     let scale = o .low16 .ensures ∙ ap wrap16 (kept w32 (a .args .c .«ltp_scale_q14») (o .before .struct-told4 .given .1 .1 .1 .0 .1)) in
     let gains = g .last-gains .ensures ∙ ap (λ (n : ℕ). getD (a .args .c .«gains_q16») (n - 2) (pos 0) ∷ getD (a .args .c .«gains_q16») (n - 1) (pos 0) ∷ []) (count (r .before)) in
     let n = toZ-pos w32 {n = r .before .count-of .result} (omega (arith, few (r .before))) ∙ ap pos (count (r .before)) in

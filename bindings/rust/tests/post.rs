@@ -1,0 +1,98 @@
+//! The binding over the linked library.
+
+use post::{Description, Params, Post, Refusal, filter, played, stability};
+
+/// The place of the count of losses in the state's words.
+const LOSS_CNT: usize = 345;
+
+fn plain() -> Description {
+    Description { pitch_l: [32; 4], gains_q16: [81_920; 4], ..Description::default() }
+}
+
+/// A post whose count of losses is written.
+fn with_losses(losses: i32) -> Post {
+    let post = Post::set_up(16, 4).unwrap();
+    let (mut words, halves) = (*post.parts().0, *post.parts().1);
+    words[LOSS_CNT] = losses;
+    Post::from_parts(words, halves)
+}
+
+/// A received frame that is to be refused, with everything left as it was.
+fn refused(params: Params, description: Description, pulses: usize, output: usize) -> Refusal {
+    let mut post = Post::set_up(16, 4).unwrap();
+    let (before, mut changed, mut samples) = (post.clone(), description.clone(), vec![-1; output]);
+    let why = post.received(params, &mut changed, &vec![0; pulses], &mut samples).unwrap_err();
+    assert_eq!(post, before);
+    assert_eq!(changed, description);
+    assert_eq!(samples, vec![-1; output]);
+    why
+}
+
+#[test]
+fn numbers_and_words() {
+    let words = "rate, size, history, run full, signal, gain, lag, taps, line, pulses, speaker, length, order";
+    let listed: Vec<(i32, &str)> = (1..).zip(words.split(", ")).collect();
+    assert_eq!(Refusal::ALL.map(|why| (why.number(), why.word())).to_vec(), listed);
+}
+
+#[test]
+fn each_refusal() {
+    let voiced = Params { signal_type: 2, ..Params::default() };
+    let found = [
+        Post::set_up(48, 4).unwrap_err(),
+        Post::set_up(16, 3).unwrap_err(),
+        with_losses(-1).lost(&mut plain(), &mut [0; 320]).unwrap_err(),
+        with_losses(i32::MAX).lost(&mut Description::default(), &mut [0; 320]).unwrap_err(),
+        refused(Params { signal_type: 3, ..voiced }, plain(), 320, 320),
+        refused(voiced, Description { gains_q16: [81_919; 4], ..plain() }, 320, 320),
+        refused(voiced, Description { pitch_l: [32, 32, 32, 289], ..plain() }, 320, 320),
+        refused(voiced, Description { ltp_scale_q14: 16_385, ..plain() }, 320, 320),
+        refused(voiced, Description { nlsf_q15: [-1; 16], ..plain() }, 320, 320),
+        refused(voiced, plain(), 319, 320),
+        refused(voiced, plain(), 320, 319),
+        Post::set_up(16, 4).unwrap().glue(&mut [0; 320], 0).unwrap_err(),
+        stability(&[0; 16], 17).unwrap_err(),
+    ];
+    assert_eq!(found, Refusal::ALL);
+}
+
+#[test]
+fn a_frame_and_its_loss() {
+    let mut post = Post::set_up(16, 4).unwrap();
+    let (mut output, mut description) = ([1; 400], plain());
+    post.received(Params::default(), &mut description, &[0; 320], &mut output).unwrap();
+    assert_eq!(output[320..], [1; 80]);
+    assert_eq!(post.parts().0[LOSS_CNT], 0);
+    post.lost(&mut description, &mut output).unwrap();
+    assert_eq!(post.parts().0[LOSS_CNT], 1);
+    assert_eq!(description.pitch_l, [description.pitch_l[3]; 4]);
+}
+
+#[test]
+fn stages_alone() {
+    let mut post = Post::set_up(8, 2).unwrap();
+    let (mut description, mut output) = (plain(), [0; 80]);
+    post.core(Params::default(), &mut description, &[1; 80], &mut output).unwrap();
+    assert_ne!(output, [0; 80]);
+    post.plc_received(Params::default(), &mut description).unwrap();
+    post.plc_lost(&mut description, &mut output).unwrap();
+    assert_eq!(post.parts().0[LOSS_CNT], 1);
+}
+
+#[test]
+fn played_part() {
+    let mut output = [7; 400];
+    assert_eq!(played(16, 4, &mut output).len(), 320);
+    assert_eq!(played(16, 3, &mut output).len(), 0);
+    assert_eq!(played(8, 2, &mut output[..79]).len(), 0);
+}
+
+#[test]
+fn filters() {
+    assert_eq!([0, 4_094, 4_095].map(|first| stability(&[first], 1).unwrap()), [1_073_741_824, 1_048_320, 0]);
+    let lines: Vec<i16> = (1..=10).map(|k| 2_978 * k).collect();
+    let mut coefficients = [9; 16];
+    filter(&mut coefficients, &lines, 10).unwrap();
+    assert!(stability(&coefficients, 10).unwrap() > 0);
+    assert_eq!(coefficients[10..], [9; 6]);
+}

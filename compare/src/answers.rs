@@ -1,0 +1,310 @@
+//! A fixed list of calls with the Rust's answers, which the program crates/replay makes again without the Rust.
+
+use crate::call::{self, Call, Draft, What};
+use crate::draw::{self, Draw, SHAPES};
+use crate::reference::{STOP, STOPPED, read_state};
+use crate::{rows, streams};
+use std::fmt::Write;
+use std::fs;
+use std::path::Path;
+
+const SEED: u64 = 1;
+/// Frames of each recorded stream.
+const RECORDS: usize = 45;
+/// Drawn calls of the stability test, and of the filter.
+const FILTERS: u64 = 200;
+/// Numbers after a line's first two: the program's row has 64.
+const PLACES: usize = 62;
+
+/// The calls in the order of the program's numbers for them.
+const CALLS: [What; 11] = [
+    What::SetUp,
+    What::Received,
+    What::Lost,
+    What::Core,
+    What::PlcReceived,
+    What::PlcLost,
+    What::Glue,
+    What::Noise,
+    What::Played,
+    What::Stability,
+    What::Filter,
+];
+
+/// A slice that the program lends parts of: its name, its number in a line, and whether a call is given its contents.
+type Kept<T> = (&'static str, usize, fn(&mut Call) -> &mut Vec<T>, bool);
+
+const LONG: [Kept<i32>; 3] =
+    [("words", 20, |c| &mut c.words, true), ("control", 22, |c| &mut c.control, true), ("result", 29, |c| &mut c.result, false)];
+
+const SHORT: [Kept<i16>; 7] = [
+    ("halves", 21, |c| &mut c.halves, true),
+    ("taps", 23, |c| &mut c.taps, true),
+    ("rows", 24, |c| &mut c.rows, true),
+    ("lines", 25, |c| &mut c.lines, true),
+    ("pulses", 26, |c| &mut c.pulses, true),
+    ("output", 27, |c| &mut c.output, false),
+    ("coefficients", 28, |c| &mut c.coefficients, true),
+];
+
+struct List {
+    /// What calls are lent parts of, as the program keeps it.
+    kept: Call,
+    stdin: String,
+    stdout: String,
+    calls: u64,
+}
+
+/// Writes the program's standard input and, from the Rust, what it must write.
+pub fn write(streams: &Path, folder: &Path) -> Result<(), String> {
+    let mut list = List::new();
+    for (rate, subframes) in SHAPES {
+        list.stream(&streams.join(format!("r{rate}_n{subframes}_0.vec")))?;
+    }
+    for shape in SHAPES {
+        list.drawn(shape)?;
+    }
+    list.rows()?;
+    list.short()?;
+    list.filters()?;
+    writeln!(list.stdout, "{} calls", list.calls).unwrap();
+    for (name, text) in [("stdin", &list.stdin), ("stdout", &list.stdout)] {
+        fs::write(folder.join(name), text).map_err(|why| format!("{name}: {why}"))?;
+    }
+    Ok(())
+}
+
+impl List {
+    fn new() -> List {
+        let mut kept = Draft::plain(What::Received, 16, 4).call();
+        kept.words = vec![0; 704];
+        kept.halves = vec![0; 544];
+        kept.control = vec![0; 16];
+        kept.taps = vec![0; 32];
+        kept.rows = vec![0; 40];
+        kept.lines = vec![0; 24];
+        kept.pulses = vec![0; 400];
+        kept.output = vec![0; 400];
+        kept.coefficients = vec![0; 48];
+        kept.result = vec![0; 16];
+        let stdin = "# Calls, as crates/replay reads them; made by compare/answers.\n".into();
+        List { kept, stdin, stdout: String::new(), calls: 0 }
+    }
+
+    /// A heading, which has no digit.
+    fn title(&mut self, text: &str) {
+        assert!(!text.contains(|c: char| c.is_ascii_digit()));
+        writeln!(self.stdin, "# {text}").unwrap();
+    }
+
+    /// The state that the last call left.
+    fn state(&self) -> given::silk::decoder_structs::SilkDecoderState {
+        read_state(&self.kept.words, &self.kept.halves)
+    }
+
+    /// Lines that make the kept numbers those of a call, one that makes it, and the Rust's answer.
+    fn make(&mut self, mut call: Call) -> Result<i32, String> {
+        let mut numbers = match call.what {
+            What::SetUp | What::Played => vec![call.rate as i64, call.subframes as i64, 0, 0],
+            What::Received | What::Core => [call.signal, call.offset, call.interpolation, call.seed].map(i64::from).to_vec(),
+            What::PlcReceived => [call.signal, call.offset, call.interpolation, 0].map(i64::from).to_vec(),
+            What::Lost | What::PlcLost => vec![0; 4],
+            What::Glue | What::Noise | What::Stability | What::Filter => {
+                call.length = call.length.min(u32::MAX as usize);
+                vec![call.length as u32 as i32 as i64, 0, 0, 0]
+            }
+        };
+        let mut lent = [0; 10];
+        for kept in LONG {
+            self.lend(&mut call, kept, &mut lent);
+        }
+        for kept in SHORT {
+            self.lend(&mut call, kept, &mut lent);
+        }
+        numbers.extend(lent);
+        while numbers.last() == Some(&0) {
+            numbers.pop();
+        }
+        let what = CALLS.iter().position(|what| *what == call.what).unwrap();
+        write!(self.stdin, "{what} {}", call.what.name()).unwrap();
+        for number in numbers {
+            write!(self.stdin, " {number}").unwrap();
+        }
+        self.stdin.push('\n');
+
+        let answer = call::reference(&mut call);
+        if answer == STOPPED {
+            return Err(format!("call {}: the Rust stops: {}", self.calls + 1, STOP.lock().unwrap()));
+        }
+        for kept in LONG {
+            self.back(&mut call, kept);
+        }
+        for kept in SHORT {
+            self.back(&mut call, kept);
+        }
+        self.calls += 1;
+        writeln!(self.stdout, "{} {answer} {:08x}", self.calls, self.sum()).unwrap();
+        Ok(answer)
+    }
+
+    /// A call's slice becomes the first part of a kept one, by lines for what differs.
+    fn lend<T: Copy + PartialEq + Into<i64>>(&mut self, call: &mut Call, (name, number, get, given): Kept<T>, lent: &mut [i64; 10]) {
+        let (slice, kept) = (get(call), get(&mut self.kept));
+        lent[number - 20] = slice.len() as i64;
+        if given {
+            let mut at = 0;
+            while at < slice.len() {
+                if slice[at] == kept[at] {
+                    at += 1;
+                    continue;
+                }
+                let most = slice.len().min(at + PLACES);
+                let differs = |place: &usize| slice[*place] != kept[*place];
+                // A line ends before four numbers that are the same.
+                let end = (at + 1..most).find(|end| !(*end..most.min(end + 4)).any(|place| differs(&place))).unwrap_or(most);
+                write!(self.stdin, "{number} {name} {at}:").unwrap();
+                for value in &slice[at..end] {
+                    write!(self.stdin, " {}", (*value).into()).unwrap();
+                }
+                self.stdin.push('\n');
+                at = end;
+            }
+            kept[..slice.len()].copy_from_slice(slice);
+        } else {
+            let length = slice.len();
+            slice.copy_from_slice(&kept[..length]);
+        }
+    }
+
+    fn back<T: Copy>(&mut self, call: &mut Call, (_, _, get, _): Kept<T>) {
+        let slice = get(call);
+        get(&mut self.kept)[..slice.len()].copy_from_slice(slice);
+    }
+
+    /// The program's check sum of all that a call can write.
+    fn sum(&self) -> i32 {
+        let mixed = |sum: i32, number: i32| sum.wrapping_mul(16_777_619).wrapping_add(number);
+        let short = |sum: i32, numbers: &[i16]| numbers.iter().fold(sum, |sum, number| mixed(sum, *number as i32));
+        let long = |sum: i32, numbers: &[i32]| numbers.iter().fold(sum, |sum, number| mixed(sum, *number));
+        let k = &self.kept;
+        let state = short(long(0, &k.words), &k.halves);
+        let description = short(long(state, &k.control), &k.taps);
+        long(short(short(description, &k.output), &k.coefficients), &k.result)
+    }
+
+    /// A call on the state that the last one left.
+    fn next(&mut self, mut call: Call) -> Result<i32, String> {
+        call.words = self.kept.words[..call.words.len()].to_vec();
+        call.halves = self.kept.halves[..call.halves.len()].to_vec();
+        self.make(call)
+    }
+
+    /// The first frames of a recorded stream, from set-up.
+    fn stream(&mut self, file: &Path) -> Result<(), String> {
+        let stream = streams::read(file)?;
+        self.title("speech");
+        self.next(Draft::plain(What::SetUp, stream.rate, stream.subframes).call())?;
+        stream.records.into_iter().take(RECORDS).try_for_each(|(record, _)| self.next(record).map(|_| ()))
+    }
+
+    /// Frames from set-up, received, lost and refused, and each stage alone on a state met there.
+    fn drawn(&mut self, (rate, subframes): (i32, i32)) -> Result<(), String> {
+        let draw = &mut Draw::new(SEED, 100, (rate * subframes) as u64);
+        self.title("drawn frames, received, lost and refused");
+        self.next(Draft::plain(What::SetUp, rate, subframes).call())?;
+        for step in "vlulivvluxvlllivxuLv".chars() {
+            self.step(draw, step)?;
+        }
+        self.title("stages alone");
+        for what in [What::Core, What::PlcReceived, What::PlcLost, What::Glue, What::Noise, What::Played] {
+            self.frame(draw, what, None, false)?;
+        }
+        self.step(draw, 'l')?;
+        for what in [What::Noise, What::Glue, What::PlcReceived, What::Core, What::Glue] {
+            self.frame(draw, what, None, false)?;
+        }
+        Ok(())
+    }
+
+    /// A step of a list: voiced, unvoiced, inactive, lost, a run of losses, or refused.
+    fn step(&mut self, draw: &mut Draw, step: char) -> Result<(), String> {
+        match step {
+            'v' => self.frame(draw, What::Received, Some(2), false),
+            'u' => self.frame(draw, What::Received, Some(1), false),
+            'i' => self.frame(draw, What::Received, Some(0), false),
+            'l' => self.frame(draw, What::Lost, None, false),
+            'L' => (0..12).try_for_each(|_| self.frame(draw, What::Lost, None, false)),
+            _ => self.frame(draw, What::Received, Some(2), true),
+        }
+    }
+
+    /// A drawn call of a frame or a stage on the state that the last call left.
+    fn frame(&mut self, draw: &mut Draw, what: What, signal: Option<i8>, broken: bool) -> Result<(), String> {
+        let dec = self.state();
+        let (rate, subframes) = (dec.fs_khz, dec.nb_subfr);
+        let mut draft = Draft { dec, ..Draft::plain(what, rate, subframes) };
+        // Drawn until the type is the wanted one.
+        loop {
+            draw::frame(draw, &mut draft);
+            if signal.is_none_or(|signal| draft.dec.indices.signal_type == signal) {
+                break;
+            }
+        }
+        if broken {
+            draw::break_frame(draw, &mut draft);
+        }
+        if what == What::Noise && draft.dec.loss_cnt > 0 {
+            draw::any_control(draw, &mut draft.control);
+        }
+        draft.length = rate as usize * 5 * subframes as usize;
+        self.make(draft.call()).map(|_| ())
+    }
+
+    /// The hand-made rows: of calls that play a frame, those that are refused.
+    fn rows(&mut self) -> Result<(), String> {
+        self.title("the ends of the ranges");
+        for row in rows::all() {
+            let mut call = row.call();
+            let whole = matches!(row.what, What::Received | What::Lost | What::Core | What::PlcLost);
+            if !whole || call::reference(&mut call) != 0 {
+                self.make(row.call())?;
+            }
+        }
+        Ok(())
+    }
+
+    /// Each sized slice of each call, one place too short.
+    fn short(&mut self) -> Result<(), String> {
+        self.title("slices that are too short");
+        for what in CALLS {
+            let call = Draft::plain(what, 8, 2).call();
+            for (_, get, size) in call::LONG {
+                self.cut(&call, get, size)?;
+            }
+            for (_, get, size) in call::SHORT {
+                self.cut(&call, get, size)?;
+            }
+        }
+        Ok(())
+    }
+
+    fn cut<T>(&mut self, call: &Call, get: fn(&mut Call) -> &mut Vec<T>, size: usize) -> Result<(), String> {
+        let mut call = call.clone();
+        if size == 0 || get(&mut call).is_empty() {
+            return Ok(());
+        }
+        get(&mut call).truncate(size - 1);
+        self.next(call).map(|_| ())
+    }
+
+    /// The stability test and the filter from lines on drawn calls.
+    fn filters(&mut self) -> Result<(), String> {
+        self.title("stability and filter");
+        for case in 0..FILTERS {
+            for what in [What::Stability, What::Filter] {
+                self.make(draw::call(&mut Draw::new(SEED, what as u64, case), what))?;
+            }
+        }
+        Ok(())
+    }
+}

@@ -1,0 +1,52 @@
+-- A record played, and the count of frames.
+use Prim.Native.Nat.{ℕ, _+_}
+use mathlib.Core.List.{List}
+use mathlib.Core.Bool.{cond}
+use lib.Dec.{eqb}
+use lib.IntN.{ℤ, pos}
+use lib.ListN.{replicate}
+use Rattle.refusal.specs.Refusals.{refusalNumber}
+use Rattle.refusal.specs.declared.Refusal.{Refusal}
+use Rattle.decoder.specs.declared.SilkDecoderState.{SilkDecoderState}
+use Rattle.decode_frame.specs.Answer.{frameAnswer, frameOutput}
+use Rattle.decode_frame.specs.declared.FrameAnswer.{FrameAnswer}
+use Rattle.stream.specs.Bytes.{sampleBytes}
+use Rattle.stream.specs.Record.{frameIn, controlIn, rowsIn, linesIn, pulsesIn}
+use Rattle.play.specs.declared.Sound.{Sound}
+use Rattle.play.specs.declared.Tally.{Tally}
+use Rattle.play.specs.declared.Ended.{Ended}
+use Rattle.play.specs.declared.Ended.the-variants.{Received, Concealed, Refused, Cut, Kind, Unwritten}
+
+-- the largest frame, silent
+abbrev pub silent : List ℤ
+silent = replicate 320 (pos 0)
+
+module _ (s : SilkDecoderState) (b : List ℕ) where
+  unfoldable pub answer : FrameAnswer
+  answer = frameAnswer s (frameIn b) (controlIn b) (rowsIn b) (linesIn b) (pulsesIn b) silent
+
+  -- a refused frame leaves the state and the silence
+  unfoldable pub soundOf : Sound
+  soundOf =
+      record {
+        refusal = answer .refusal;
+        state = answer .state;
+        bytes = sampleBytes (frameOutput s (frameIn b) (controlIn b) (rowsIn b) (linesIn b) (pulsesIn b) silent) 320;
+      }
+
+-- what became of a record of a kind whose frame was answered by a refusal or by none
+abbrev pub howOf : ℕ → Refusal → Ended
+howOf kind r = cond (eqb (refusalNumber r) 0) (cond (eqb kind 0) Concealed Received) (Refused r)
+
+-- the frames counted
+abbrev pub total : Tally → ℕ
+total t = t .received + t .concealed + t .refused
+
+-- one frame more
+abbrev pub countedOf : Tally → Ended → Tally
+countedOf t Received = record { received = t .received + 1; concealed = t .concealed; refused = t .refused }
+countedOf t Concealed = record { received = t .received; concealed = t .concealed + 1; refused = t .refused }
+countedOf t (Refused r) = record { received = t .received; concealed = t .concealed; refused = t .refused + 1 }
+countedOf t Cut = t
+countedOf t (Kind k) = t
+countedOf t Unwritten = t
