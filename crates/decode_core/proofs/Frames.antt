@@ -19,7 +19,7 @@ use Rattle.decoder.specs.declared.SilkDecoderState.{SilkDecoderState}
 use Rattle.decoder.specs.declared.SilkDecoderControl.{SilkDecoderControl}
 use Rattle.decoder.specs.declared.Params.{Params}
 use Rattle.decode_core.specs.Core.{Core, subframes, settingOf, start, coreExcitation, decodeCore}
-use Rattle.decode_core.specs.Excitation.{offsetQ14, excitation}
+use Rattle.excitation.specs.Excitation.{offsetQ14, excitation}
 use Rattle.decode_core.specs.Ready.{held, begin, Left}
 use Rattle.decode_core.specs.declared.Setting.{Setting}
 use Rattle.decode_core.specs.declared.Carried.{Carried}

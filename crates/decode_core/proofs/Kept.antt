@@ -32,7 +32,7 @@ use Rattle.decoder.specs.declared.SilkDecoderControl.{SilkDecoderControl}
 use Rattle.decoder.specs.declared.Params.{Params}
 use Rattle.decoder.proofs.Types.{zero-fits, replicate-fits, set-words}
 use Rattle.decoder.proofs.Built.{words, words-front, typed-build}
-use Rattle.decode_core.specs.Excitation.{offsetQ14, level, excited, generatorAt, excitation}
+use Rattle.excitation.specs.Excitation.{offsetQ14, level, excited, generatorAt, excitation}
 use Rattle.decode_core.specs.Core.{Core, transition, smoothed, gainAdjustment, settingOf, long, rewhitens, controlAt, bufferAt, subframe, subframes, start, coreExcitation, decodeCore}
 use Rattle.decode_core.specs.declared.Setting.{Setting}
 

@@ -1,5 +1,4 @@
 -- The laws of this crate.
-pub mod Samples
 pub mod Pasts
 pub mod Whiten
 pub mod Short
@@ -8,7 +7,5 @@ pub mod Steps
 pub mod Plays
 pub mod Loop
 pub mod Frames
-pub mod Bench
 pub mod Accepts
-pub mod Standard
 pub mod Kept

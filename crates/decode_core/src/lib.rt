@@ -1,12 +1,13 @@
-// A received frame's excitation, long-term and short-term synthesis (decode_core.rs).
+// A received frame, from its excitation through long-term and short-term synthesis (decode_core.rs).
 use decoder::Params;
 use decoder::SilkDecoderControl;
 use decoder::SilkDecoderState;
 use decoder::is_voiced;
+use excitation::excite;
+use excitation::offset_q14;
 use macros::silk_add_lshift32;
 use macros::silk_div32_varq;
 use macros::silk_inverse32_varq;
-use macros::silk_rand;
 use macros::silk_smulwb;
 use macros::silk_smulww;
 use refusal::Refusal;
@@ -18,10 +19,7 @@ use sigproc::lpc_synthesis;
 use sigproc::ltp_prediction;
 use sigproc::scale_out;
 use sigproc::silk_lpc_analysis_filter;
-use word::add32;
-use word::neg32;
 use word::shl32;
-use word::sub32;
 use word::wide8;
 use word::wide16;
 ghost use mathlib.Core.Path.{_≡_};
@@ -39,7 +37,7 @@ ghost use Rattle.macros.specs.Fixed.{smulwb, smulww};
 ghost use Rattle.sigproc.specs.Analysis.{residual};
 ghost use mir.Syntax.{w32};
 ghost use Rattle.decoder.specs.Typed.{Words};
-ghost use Rattle.decode_core.specs.Excitation.{offsetQ14, level, excited, excitation};
+ghost use Rattle.excitation.specs.Excitation.{offsetQ14, excitation};
 ghost use Rattle.sigproc.specs.Synthesis.{synthesis, played};
 ghost use Rattle.decode_core.specs.Core.{smoothed, refilled, ltpPast, ltpSynthesis, gainAdjustment, inverseGainQ31, rewhitens, controlAt, long, bufferAt, pastAt, subframe, subframes, settingOf, decodeCore};
 ghost use Rattle.decode_core.specs.Answer.{coreAnswer, coreOutput};
@@ -73,67 +71,6 @@ pub struct Carried {
     pub control: SilkDecoderControl,
     pub gain: i32,
     pub idx: usize,
-}
-
-const OFFSET_UVL_Q10: i32 = 100;
-
-const OFFSET_UVH_Q10: i32 = 240;
-
-const OFFSET_VL_Q10: i32 = 32;
-
-const OFFSET_VH_Q10: i32 = 100;
-
-const QUANT_LEVEL_ADJUST_Q14: i32 = 1280;
-
-fn offset_q14(voiced: bool, quant_offset_type: i8) -> i32
-    ensures { λ r. ⌜ (r ≡ offsetQ14 voiced «quant_offset_type») × (natAbs r ≤ 3840) ⌝ }
-{
-    if voiced {
-        if quant_offset_type == 0 {
-            16 * OFFSET_VL_Q10
-        } else {
-            16 * OFFSET_VH_Q10
-        }
-    } else if quant_offset_type == 0 {
-        16 * OFFSET_UVL_Q10
-    } else {
-        16 * OFFSET_UVH_Q10
-    }
-}
-
-fn level(p: i16) -> i32
-    ensures { λ r. ⌜ r ≡ level p ⌝ }
-{
-    let q = shl32(wide16(p), 14);
-    if p > 0 {
-        sub32(q, QUANT_LEVEL_ADJUST_Q14)
-    } else if p < 0 {
-        add32(q, QUANT_LEVEL_ADJUST_Q14)
-    } else {
-        q
-    }
-}
-
-// A pulse as a sample: a negative generator value negates.
-fn excited(offset: i32, g: i32, p: i16) -> i32
-    requires { ⌜ natAbs offset ≤ 3840 ⌝ }
-    ensures { λ r. ⌜ r ≡ excited offset g p ⌝ }
-{
-    let e = add32(level(p), offset);
-    if g < 0 { neg32(e) } else { e }
-}
-
-fn excite(exc: &mut [i32], pulses: &[i16], offset: i32, seed: i32)
-    requires { ⌜ (length (now exc) ≤ length (now pulses)) × (natAbs offset ≤ 3840) ⌝ }
-    ensures { λ _. ⌜ now (exc .exit) ≡ excitation offset (now (pulses .entry)) seed (length (now (exc .entry))) ⌝ }
-{
-    let mut g = seed;
-    for i in 0..exc.len() {
-        let p = pulses[i];
-        let r = silk_rand(g);
-        exc[i] = excited(offset, r, p);
-        g = add32(r, wide16(p));
-    }
 }
 
 fn gain_adjustment(last: i32, gain: i32) -> i32

@@ -9,7 +9,7 @@ use Rattle.word.specs.Row.{Row, agree}
 use Rattle.word.proofs.Rows.{row-agrees}
 use Rattle.macros.proofs.Bench.{arithmetic, arithmetic-agrees}
 use Rattle.stability.proofs.Bench.{stability, stability-agrees}
-use Rattle.decode_core.proofs.Bench.{samples, samples-agree}
+use Rattle.excitation.proofs.Bench.{samples, samples-agree}
 use Rattle.plc.proofs.Taps.{taps, taps-agree}
 use Rattle.plc.proofs.Bench.{lags, lags-agree}
 use Rattle.cng.proofs.Bench.{noise, noise-agrees}

@@ -1,4 +1,5 @@
 -- The laws that other proofs cite.
+pub mod Answers
 pub mod Finishing
 pub mod Heard
 pub mod Kept

@@ -10,7 +10,7 @@ use lib.Seq.{take-at, length-take-le}
 use mir.Syntax.{w8, w32}
 use Rattle.word.proofs.Words.{kept}
 use Rattle.decode_core.specs.Core.{subframes}
-use Rattle.decode_core.specs.Excitation.{offsetQ14, excitation}
+use Rattle.excitation.specs.Excitation.{offsetQ14, excitation}
 use Rattle.decode_core.specs.Ready.{begin, Left}
 use Rattle.decode_core.proofs.decode_core.Statement.{statement}
 use Rattle.decode_core.proofs.decode_core.Tie as tie

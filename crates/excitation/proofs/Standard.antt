@@ -19,8 +19,8 @@ use Rattle.word.proofs.Ring.{negℤ-*ℤ}
 use Rattle.word.proofs.Words.{mod-wrap}
 use Rattle.macros.specs.Fixed.{rand}
 use Rattle.macros.proofs.Ranges.{rand-fits}
-use Rattle.decode_core.specs.Excitation.{offsetQ14, level, excited, generatorAt, excitation}
-use Rattle.decode_core.specs.Rfc.{offsetQ23, sign, nextSeed, reconstructed, seedAt, excitationQ23}
+use Rattle.excitation.specs.Excitation.{offsetQ14, level, excited, generatorAt, excitation}
+use Rattle.excitation.specs.Rfc.{offsetQ23, sign, nextSeed, reconstructed, seedAt, excitationQ23}
 
 -- ---- the generator
 next-is : (g : ℤ) → nextSeed (modℤ g (2 ^ 32)) ≡ modℤ (rand g) (2 ^ 32)

@@ -4,10 +4,10 @@ use mir.Syntax.{w16, w32}
 use mir.Facts.{toZ-ofZ}
 use Rattle.word.proofs.Words.{kept}
 use Rattle.word.proofs.Order.{lt-read-l}
-use Rattle.decode_core.specs.Excitation.{excited}
-use Rattle.decode_core.proofs.Samples.{sample-word, negated-word}
-use Rattle.decode_core.proofs.excited.Statement.{statement}
-use Rattle.decode_core.proofs.excited.Tie as tie
+use Rattle.excitation.specs.Excitation.{excited}
+use Rattle.excitation.proofs.Samples.{sample-word, negated-word}
+use Rattle.excitation.proofs.excited.Statement.{statement}
+use Rattle.excitation.proofs.excited.Tie as tie
 
 returns : tie.Need-returns
 unfolding excited

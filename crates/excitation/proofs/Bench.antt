@@ -7,7 +7,7 @@ use lib.ListN.{getD}
 use Rattle.word.specs.Int.{wrap}
 use Rattle.word.specs.Row.{Row, row, agree}
 use Rattle.macros.specs.Fixed.{rand}
-use Rattle.decode_core.specs.Excitation.{offsetQ14, level, excited, generatorAt, excitation}
+use Rattle.excitation.specs.Excitation.{offsetQ14, level, excited, generatorAt, excitation}
 
 -- the first sample of type 2 and offset 0, from a seed and a pulse
 abbrev first : ℤ → ℤ → ℤ

@@ -5,10 +5,10 @@ use mir.Facts.{toZ-ofZ}
 use Rattle.word.specs.Int.{wrap32}
 use Rattle.word.proofs.Words.{kept, wrap-wrap}
 use Rattle.word.proofs.Order.{lt-read-l, lt-read-r}
-use Rattle.decode_core.specs.Excitation.{level}
-use Rattle.decode_core.proofs.Samples.{level-word}
-use Rattle.decode_core.proofs.level.Statement.{statement}
-use Rattle.decode_core.proofs.level.Tie as tie
+use Rattle.excitation.specs.Excitation.{level}
+use Rattle.excitation.proofs.Samples.{level-word}
+use Rattle.excitation.proofs.level.Statement.{statement}
+use Rattle.excitation.proofs.level.Tie as tie
 
 returns : tie.Need-returns
 unfolding level

@@ -11,11 +11,11 @@ use mir.Syntax.{w16, w32}
 use mir.Val.{toZ, ofZ}
 use mir.Facts.{toZ-ofZ}
 use Rattle.word.proofs.Words.{kept}
-use Rattle.decode_core.specs.Excitation.{generatorAt, excitation}
+use Rattle.excitation.specs.Excitation.{generatorAt, excitation}
 use Rattle.sigproc.proofs.Fill.{filled}
-use Rattle.decode_core.proofs.Samples.{excite-turn}
-use Rattle.decode_core.proofs.excite.Statement.{statement}
-use Rattle.decode_core.proofs.excite.Tie as tie
+use Rattle.excitation.proofs.Samples.{excite-turn}
+use Rattle.excitation.proofs.excite.Statement.{statement}
+use Rattle.excitation.proofs.excite.Tie as tie
 
 abbrev Inv-loop : tie.InvT-loop
 Inv-loop exc₀ pulses offset seed g₀ i₀ i-end exc g i =

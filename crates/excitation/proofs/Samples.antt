@@ -15,7 +15,7 @@ use Rattle.word.proofs.Sizes.{abs-add, abs-sub, abs-mul, abs-neg, fits-abs, abs
 use Rattle.word.proofs.Words.{wrap-id, wrap-add-l, wrap-neg}
 use Rattle.word.proofs.Lists.{length-snoc, grow}
 use Rattle.macros.specs.Fixed.{rand}
-use Rattle.decode_core.specs.Excitation.{level, excited, generatorAt, excitation}
+use Rattle.excitation.specs.Excitation.{level, excited, generatorAt, excitation}
 
 nearer : (a b : Bool) → natAbs (cond a (pos 1280) (cond b (negsuc 1279) (pos 0))) ≤ 1280
 nearer true b = lit≤ tt

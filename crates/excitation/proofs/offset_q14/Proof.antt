@@ -3,9 +3,9 @@ use borrow.Author.Needs.{needs}
 use lib.Dec.{lit<, lit≤}
 use mir.Syntax.{w8}
 use Rattle.word.proofs.Order.{is, isnt}
-use Rattle.decode_core.specs.Excitation.{offsetQ14}
-use Rattle.decode_core.proofs.offset_q14.Statement.{statement}
-use Rattle.decode_core.proofs.offset_q14.Tie as tie
+use Rattle.excitation.specs.Excitation.{offsetQ14}
+use Rattle.excitation.proofs.offset_q14.Statement.{statement}
+use Rattle.excitation.proofs.offset_q14.Tie as tie
 
 returns : tie.Need-returns
 unfolding offsetQ14

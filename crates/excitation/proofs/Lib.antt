@@ -1,0 +1,4 @@
+-- The laws of this crate.
+pub mod Samples
+pub mod Bench
+pub mod Standard
