@@ -1,5 +1,6 @@
 //! Every function of the library as the given Rust would have it: document 01's rows, then the Rust's own stage or frame.
 
+pub use crate::post::ffi::{CONTROL, HALVES, LINES, ROWS, TAPS, WORDS};
 use given::range_coder::RangeCoder;
 use given::silk::cng::silk_cng;
 use given::silk::decode_core::silk_decode_core;
@@ -12,13 +13,6 @@ use given::silk::structs::SideInfoIndices;
 use std::panic::{AssertUnwindSafe, catch_unwind};
 use std::slice::from_mut as one;
 use std::sync::Mutex;
-
-pub const WORDS: usize = 696;
-pub const HALVES: usize = 535;
-pub const CONTROL: usize = 9;
-pub const TAPS: usize = 20;
-pub const ROWS: usize = 32;
-pub const LINES: usize = 16;
 
 /// A slice that must have a size is shorter.
 const TOO_SHORT: i32 = -1;

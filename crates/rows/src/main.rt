@@ -1,12 +1,11 @@
 // Runs the judges over the cases of standard input: each end of each range of document 01 from inside and from outside.
-mod change;
 
-use change::Input;
-use change::changed;
 use decoder::Frame;
 use decoder::Params;
+use decoder::SilkCNGState;
 use decoder::SilkDecoderControl;
 use decoder::SilkDecoderState;
+use decoder::SilkPLCState;
 use decoder::set_up;
 use libc::STDIN_FILENO;
 use libc::STDOUT_FILENO;
@@ -14,6 +13,7 @@ use line::Line;
 use line::blank;
 use line::fed;
 use refusal::number;
+use word::low16;
 
 const RECEIVED: i32 = 0;
 
@@ -28,6 +28,380 @@ const GLUE: i32 = 4;
 const SET_UP: i32 = 6;
 
 const PLAYED: i32 = 7;
+
+// The fields of a case by number.
+const FS_KHZ: i32 = 0;
+
+const NB_SUBFR: i32 = 1;
+
+const FRAME_LENGTH: i32 = 2;
+
+const SUBFR_LENGTH: i32 = 3;
+
+const LTP_MEM_LENGTH: i32 = 4;
+
+const LPC_ORDER: i32 = 5;
+
+const LOSS_CNT: i32 = 6;
+
+const LAG_PREV: i32 = 7;
+
+const PREV_SIGNAL_TYPE: i32 = 8;
+
+const PREV_GAIN: i32 = 9;
+
+const FIRST_FRAME: i32 = 10;
+
+const NLSF_0: i32 = 11;
+
+const NLSF_9: i32 = 12;
+
+const NLSF_10: i32 = 13;
+
+const NLSF_15: i32 = 14;
+
+const LAST_LOST: i32 = 20;
+
+const PLC_TAP_0: i32 = 21;
+
+const PLC_TAP_1: i32 = 22;
+
+const PLC_TAP_2: i32 = 23;
+
+const PLC_TAP_3: i32 = 24;
+
+const PLC_TAP_4: i32 = 25;
+
+const RAND_SCALE: i32 = 26;
+
+const PREV_LTP_SCALE: i32 = 27;
+
+const CONC_ENERGY: i32 = 28;
+
+const ENERGY_SHIFT: i32 = 29;
+
+const PITCH: i32 = 30;
+
+const PLC_GAIN_0: i32 = 31;
+
+const PLC_GAIN_1: i32 = 32;
+
+const PLC_KHZ: i32 = 33;
+
+const PLC_NB_SUBFR: i32 = 34;
+
+const PLC_SUBFR_LENGTH: i32 = 35;
+
+const CNG_KHZ: i32 = 40;
+
+const CNG_GAIN: i32 = 41;
+
+const CNG_LINE_0: i32 = 42;
+
+const CNG_LINE_9: i32 = 43;
+
+const CNG_LINE_10: i32 = 44;
+
+const CNG_LINE_15: i32 = 45;
+
+const LTP_SCALE: i32 = 50;
+
+const GAIN_0: i32 = 51;
+
+const GAIN_1: i32 = 52;
+
+const GAIN_2: i32 = 53;
+
+const GAIN_3: i32 = 54;
+
+const LAG_0: i32 = 55;
+
+const LAG_1: i32 = 56;
+
+const LAG_2: i32 = 57;
+
+const LAG_3: i32 = 58;
+
+const TAP_0: i32 = 59;
+
+const TAP_4: i32 = 60;
+
+const TAP_15: i32 = 61;
+
+const TAP_19: i32 = 62;
+
+const SIGNAL: i32 = 70;
+
+const OFFSET: i32 = 71;
+
+const INTERPOLATION: i32 = 72;
+
+const LINE_0: i32 = 73;
+
+const LINE_9: i32 = 74;
+
+const LINE_10: i32 = 75;
+
+const LINE_15: i32 = 76;
+
+const PULSES: i32 = 77;
+
+const OUTPUT: i32 = 78;
+
+const LENGTH: i32 = 79;
+
+const SAME: i32 = 99;
+
+// What the judges are asked about.
+struct Case {
+    state: SilkDecoderState,
+    control: SilkDecoderControl,
+    signal: i32,
+    offset: i32,
+    interpolation: i32,
+    lines: [i16; 16],
+    pulses: i32,
+    output: i32,
+    length: i32,
+}
+
+fn state_changed(old: SilkDecoderState, field: i32, value: i32) -> SilkDecoderState {
+    let mut new = old;
+    match field {
+        FS_KHZ => {
+            new.fs_khz = value;
+        }
+        NB_SUBFR => {
+            new.nb_subfr = value;
+        }
+        FRAME_LENGTH => {
+            new.frame_length = value;
+        }
+        SUBFR_LENGTH => {
+            new.subfr_length = value;
+        }
+        LTP_MEM_LENGTH => {
+            new.ltp_mem_length = value;
+        }
+        LPC_ORDER => {
+            new.lpc_order = value;
+        }
+        LOSS_CNT => {
+            new.loss_cnt = value;
+        }
+        LAG_PREV => {
+            new.lag_prev = value;
+        }
+        PREV_SIGNAL_TYPE => {
+            new.prev_signal_type = value;
+        }
+        PREV_GAIN => {
+            new.prev_gain_q16 = value;
+        }
+        FIRST_FRAME => {
+            new.first_frame_after_reset = value;
+        }
+        NLSF_0 => {
+            new.prev_nlsf_q15[0] = low16(value);
+        }
+        NLSF_9 => {
+            new.prev_nlsf_q15[9] = low16(value);
+        }
+        NLSF_10 => {
+            new.prev_nlsf_q15[10] = low16(value);
+        }
+        NLSF_15 => {
+            new.prev_nlsf_q15[15] = low16(value);
+        }
+        _ => {}
+    }
+    new
+}
+
+fn plc_changed(old: SilkPLCState, field: i32, value: i32) -> SilkPLCState {
+    let mut new = old;
+    match field {
+        LAST_LOST => {
+            new.last_frame_lost = value;
+        }
+        PLC_TAP_0 => {
+            new.ltp_coef_q14[0] = low16(value);
+        }
+        PLC_TAP_1 => {
+            new.ltp_coef_q14[1] = low16(value);
+        }
+        PLC_TAP_2 => {
+            new.ltp_coef_q14[2] = low16(value);
+        }
+        PLC_TAP_3 => {
+            new.ltp_coef_q14[3] = low16(value);
+        }
+        PLC_TAP_4 => {
+            new.ltp_coef_q14[4] = low16(value);
+        }
+        RAND_SCALE => {
+            new.rand_scale_q14 = low16(value);
+        }
+        PREV_LTP_SCALE => {
+            new.prev_ltp_scale_q14 = low16(value);
+        }
+        CONC_ENERGY => {
+            new.conc_energy = value;
+        }
+        ENERGY_SHIFT => {
+            new.conc_energy_shift = value;
+        }
+        PITCH => {
+            new.pitch_l_q8 = value;
+        }
+        PLC_GAIN_0 => {
+            new.prev_gain_q16[0] = value;
+        }
+        PLC_GAIN_1 => {
+            new.prev_gain_q16[1] = value;
+        }
+        PLC_KHZ => {
+            new.fs_khz = value;
+        }
+        PLC_NB_SUBFR => {
+            new.nb_subfr = value;
+        }
+        PLC_SUBFR_LENGTH => {
+            new.subfr_length = value;
+        }
+        _ => {}
+    }
+    new
+}
+
+fn cng_changed(old: SilkCNGState, field: i32, value: i32) -> SilkCNGState {
+    let mut new = old;
+    match field {
+        CNG_KHZ => {
+            new.fs_khz = value;
+        }
+        CNG_GAIN => {
+            new.cng_smth_gain_q16 = value;
+        }
+        CNG_LINE_0 => {
+            new.cng_smth_nlsf_q15[0] = low16(value);
+        }
+        CNG_LINE_9 => {
+            new.cng_smth_nlsf_q15[9] = low16(value);
+        }
+        CNG_LINE_10 => {
+            new.cng_smth_nlsf_q15[10] = low16(value);
+        }
+        CNG_LINE_15 => {
+            new.cng_smth_nlsf_q15[15] = low16(value);
+        }
+        _ => {}
+    }
+    new
+}
+
+fn control_changed(old: SilkDecoderControl, field: i32, value: i32) -> SilkDecoderControl {
+    let mut new = old;
+    match field {
+        LTP_SCALE => {
+            new.ltp_scale_q14 = value;
+        }
+        GAIN_0 => {
+            new.gains_q16[0] = value;
+        }
+        GAIN_1 => {
+            new.gains_q16[1] = value;
+        }
+        GAIN_2 => {
+            new.gains_q16[2] = value;
+        }
+        GAIN_3 => {
+            new.gains_q16[3] = value;
+        }
+        LAG_0 => {
+            new.pitch_l[0] = value;
+        }
+        LAG_1 => {
+            new.pitch_l[1] = value;
+        }
+        LAG_2 => {
+            new.pitch_l[2] = value;
+        }
+        LAG_3 => {
+            new.pitch_l[3] = value;
+        }
+        TAP_0 => {
+            new.ltp_coef_q14[0] = low16(value);
+        }
+        TAP_4 => {
+            new.ltp_coef_q14[4] = low16(value);
+        }
+        TAP_15 => {
+            new.ltp_coef_q14[15] = low16(value);
+        }
+        TAP_19 => {
+            new.ltp_coef_q14[19] = low16(value);
+        }
+        _ => {}
+    }
+    new
+}
+
+fn frame_changed(old: Case, field: i32, value: i32) -> Case {
+    let mut new = old;
+    match field {
+        SIGNAL => {
+            new.signal = value;
+        }
+        OFFSET => {
+            new.offset = value;
+        }
+        INTERPOLATION => {
+            new.interpolation = value;
+        }
+        LINE_0 => {
+            new.lines[0] = low16(value);
+        }
+        LINE_9 => {
+            new.lines[9] = low16(value);
+        }
+        LINE_10 => {
+            new.lines[10] = low16(value);
+        }
+        LINE_15 => {
+            new.lines[15] = low16(value);
+        }
+        PULSES => {
+            new.pulses = value;
+        }
+        OUTPUT => {
+            new.output = value;
+        }
+        LENGTH => {
+            new.length = value;
+        }
+        _ => {}
+    }
+    new
+}
+
+// The input with one of its fields changed, by the field's number.
+fn changed(x: Case, field: i32, value: i32) -> Case {
+    let mut new = frame_changed(x, field, value);
+    let old = x.state;
+    let mut state = state_changed(old, field, value);
+    let old_plc = old.s_plc;
+    let plc = plc_changed(old_plc, field, value);
+    state.s_plc = plc;
+    let old_cng = old.s_cng;
+    let cng = cng_changed(old_cng, field, value);
+    state.s_cng = cng;
+    let old_control = x.control;
+    let control = control_changed(old_control, field, value);
+    new.state = state;
+    new.control = control;
+    new
+}
 
 // A set-up state whose concealment and noise have run at its rate.
 fn held(khz: i32, nb_subfr: i32) -> SilkDecoderState {
@@ -58,11 +432,11 @@ fn control() -> SilkDecoderControl {
     }
 }
 
-fn input(khz: i32, nb_subfr: i32) -> Input {
+fn base(khz: i32, nb_subfr: i32) -> Case {
     let state = held(khz, nb_subfr);
     let control = control();
     let lines = [0i16; 16];
-    Input {
+    Case {
         state,
         control,
         signal: 2,
@@ -92,7 +466,7 @@ fn lent(n: i32) -> usize {
     word::bits32(n) as usize
 }
 
-fn params(x: Input) -> Params {
+fn params(x: Case) -> Params {
     let signal = decoder::signal_of(small(x.signal));
     Params {
         signal,
@@ -138,7 +512,7 @@ fn made(khz: i32, nb_subfr: i32) -> i32 {
     number(refusal) as i32
 }
 
-fn judged(who: i32, x: Input) -> i32 {
+fn judged(who: i32, x: Case) -> i32 {
     let s = x.state;
     let c = x.control;
     let lines = x.lines;
@@ -158,7 +532,7 @@ fn judged(who: i32, x: Input) -> i32 {
     number(refusal) as i32
 }
 
-fn answer(who: i32, khz: i32, nb_subfr: i32, x: Input) -> i32 {
+fn answer(who: i32, khz: i32, nb_subfr: i32, x: Case) -> i32 {
     match who {
         SET_UP => made(khz, nb_subfr),
         PLAYED => played(khz, nb_subfr, lent(x.output)),
@@ -170,7 +544,7 @@ fn answer(who: i32, khz: i32, nb_subfr: i32, x: Input) -> i32 {
 fn right(row: [i32; 64]) -> bool {
     let khz = row[2];
     let nb_subfr = row[3];
-    let x = changed(input(khz, nb_subfr), row[4], row[5]);
+    let x = changed(base(khz, nb_subfr), row[4], row[5]);
     let y = changed(x, row[6], row[7]);
     answer(row[1], khz, nb_subfr, y) == row[0]
 }

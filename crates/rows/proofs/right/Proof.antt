@@ -4,8 +4,8 @@ use Rattle.rows.proofs.right.Tie as tie
 use Rattle.rows.proofs.right.Reads as reads
 use Rattle.rows.proofs.right.Lts as lts
 use Rattle.rows.proofs.answer.Reads as answer-reads
-use Rattle.rows.proofs.change.changed.Reads as changed-reads
-use Rattle.rows.proofs.input.Reads as input-reads
+use Rattle.rows.proofs.changed.Reads as changed-reads
+use Rattle.rows.proofs.base.Reads as base-reads
 
 array-copy-out-khz : tie.Need-array-copy-out-khz
 array-copy-out-khz c = search needs
@@ -13,8 +13,8 @@ array-copy-out-khz c = search needs
 array-copy-out-nb-subfr : tie.Need-array-copy-out-nb-subfr
 array-copy-out-nb-subfr c = search needs
 
-input-requires : tie.Need-input-requires
-input-requires c κs = search needs
+base-requires : tie.Need-base-requires
+base-requires c κs = search needs
 
 array-copy-out-changed : tie.Need-array-copy-out-changed
 array-copy-out-changed c = search needs
@@ -52,7 +52,7 @@ right-spec =
     (tie.spec
     array-copy-out-khz
     array-copy-out-nb-subfr
-    input-requires
+    base-requires
     array-copy-out-changed
     array-copy-out-changed-2
     changed-requires
