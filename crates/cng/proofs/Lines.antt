@@ -2,7 +2,6 @@
 use Prim.Native.Nat.{ℕ, zero, suc, _<_}
 use mathlib.Core.Path.{_≡_, refl, sym, _∙_}
 use mathlib.Core.Bool.{Bool, true, false, cond}
-use mathlib.Core.Logic.{_⊎_, inl, inr}
 use mathlib.Core.List.{List, _++_}
 use native.Mathlib.Omega.{arith}
 use borrow.Author.Tests.{le-ltb}
@@ -16,18 +15,11 @@ use Rattle.word.proofs.Lists.{length-tabulate, getD-tabulate}
 use Rattle.word.proofs.Order.{eqℤ-true}
 use Rattle.nlsf.specs.Lines.{negativeLine}
 use Rattle.shape.specs.Shape.{orderOf}
-use Rattle.shape.proofs.Shapes.{Rates, at8, at12, at16}
 use Rattle.decoder.specs.declared.SilkCNGState.{SilkCNGState}
 use Rattle.decoder.proofs.Between.{Between, AllBetween}
 use Rattle.decoder.proofs.Bounds.{CngHeldBounds, CngBounds}
 use Rattle.cng.specs.Noise.{flatLine, cngReset, cngReady}
 use Rattle.cng.proofs.Numbers.{flat-le}
-
-pub order-two : {r : ℕ} → Rates r → (orderOf r ≡ 10) ⊎ (orderOf r ≡ 16)
-unfolding orderOf
-order-two (at8 e) = inl (rw e)
-order-two (at12 e) = inl (rw e)
-order-two (at16 e) = inr (rw e)
 
 natural : (z : ℤ) → z ≡ pos (natAbs z) → ltZ z (pos 0) ≡ false
 natural (pos n) e = le-ltb n 0 (omega arith)

@@ -2,14 +2,13 @@
 use Prim.Native.Nat.{ℕ, _+_, _*_, _<_, _≤_}
 use mathlib.Core.Path.{_≡_, refl, ap}
 use mathlib.Core.Bool.{Bool, true, not, _&&_}
-use mathlib.Core.Logic.{_⊎_, inl, inr}
 use native.Mathlib.Omega.{arith}
 use lib.IntN.{ℤ, pos, natAbs}
 use lib.ListN.{getD}
 use lib.Signed.{ltZ}
 use Rattle.word.specs.Int.{eqℤ}
 use Rattle.shape.specs.Shape.{orderOf, rateOf, countOf}
-use Rattle.shape.proofs.Shapes.{Rates, at8, at12, at16}
+use Rattle.shape.proofs.Shapes.{Rates, at8, at12, at16, order-two}
 use Rattle.decoder.specs.Signals.{isVoiced}
 use Rattle.decoder.specs.State.{shapeOf}
 use Rattle.decoder.specs.declared.SilkDecoderState.{SilkDecoderState}
@@ -21,12 +20,6 @@ use Rattle.word.proofs.Rows.{both}
 use Rattle.judge.proofs.Bounds.{CoreFits}
 use Rattle.decode_core.specs.Core.{transition, settingOf}
 use Rattle.decode_core.specs.Ready.{Framed}
-
-order-of : {r : ℕ} → Rates r → (orderOf r ≡ 10) ⊎ (orderOf r ≡ 16)
-unfolding orderOf
-order-of (at8 e) = inl (rw e refl)
-order-of (at12 e) = inl (rw e refl)
-order-of (at16 e) = inr (rw e refl)
 
 -- a lag of 2r to 18r lies within the history with its filter
 lag-of : {r : ℕ} (n : ℕ) → Rates r → 2 * r ≤ n → n ≤ 18 * r → (3 ≤ n) × (orderOf r + n + 2 ≤ 20 * r)
@@ -42,7 +35,7 @@ framed s q c pulses output h =
     let z = b .sizes .bounds in
     let p = h .params in
     record {
-      sized = record { order = order-of (z .rate); subframe = omega (arith, z .rate-high); history = omega arith };
+      sized = record { order = order-two (z .rate); subframe = omega (arith, z .rate-high); history = omega arith };
       count = z .count-high;
       gains = λ k l e. omega (arith, ap natAbs e, p .gains k l .low);
       lags = λ v k l.

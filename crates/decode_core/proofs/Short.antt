@@ -34,8 +34,3 @@ loaded g s e h =
     let l : length m ≡ 16 = length-map g (take 16 s) ∙ length-take-le 16 s (omega arith) in
     let k : length (m ++ drop 16 s) ≤ 16 + length e = simp (length-append, length-drop) (omega arith) in
     rw (take-at m (drop 16 s) 16 l, drop-of-length-le (m ++ drop 16 s) {i = 16 + length e} k) (append-nil (m ++ e))
-
--- a list stored over one as long
-pub put-whole : (d s : List ℤ) → length d ≡ length s → putAt d 0 s ≡ s
-unfolding putAt
-put-whole d s h = rw (zero-add (length s), drop-of-length-le d {i = length s} (omega arith)) (append-nil s)

@@ -17,8 +17,9 @@ use Rattle.decoder.specs.SetUp.{cngDefault, plcDefault, stateFrom, setUp
 use Rattle.decoder.specs.Typed.{Typed, TypedCng, TypedPlc}
 use Rattle.decoder.specs.Accepted.{Accepted}
 use Rattle.decoder.specs.declared.SilkDecoderState.{SilkDecoderState}
-use Rattle.decoder.proofs.Between.{Between, AllBetween}
+use Rattle.decoder.proofs.Between.{AllBetween}
 use Rattle.decoder.proofs.Bounds.{size-fits, history-fits}
+use Rattle.decoder.proofs.Built.{in-range}
 use Rattle.decoder.proofs.Tests.{small, small-rate, small-frame, small-order}
 use Rattle.decoder.proofs.Types.{zero-fits, zeros-words}
 
@@ -35,17 +36,13 @@ unfolding setUp
 set-up-state khz nb e f = rw (set-up-accepts khz nb e f)
 
 -- ---- accepted
-zero-at : (n i : ℕ) → getD (replicate n (pos 0)) i (pos 0) ≡ pos 0
+pub zero-at : (n i : ℕ) → getD (replicate n (pos 0)) i (pos 0) ≡ pos 0
 zero-at zero i = refl
 zero-at (suc n) zero = refl
 zero-at (suc n) (suc i) = zero-at n i
 
--- a number between two
-lies : (a b n : ℕ) → a ≤ n → n ≤ b → Between a b (pos n)
-lies a b n l h = record { is = refl; low = l; high = h }
-
 zeros-between : (b n k : ℕ) → AllBetween 0 b (replicate n (pos 0)) k
-zeros-between b n k i h = rw (zero-at n i) (lies 0 b 0 zero-le zero-le)
+zeros-between b n k i h = rw (zero-at n i) (in-range 0 b 0 zero-le zero-le)
 
 -- no rate is 0
 no-rate-0 : (khz : ℤ) → isRate khz ≡ true → pos 0 ≡ pos (rateOf khz) → ⊥
@@ -64,18 +61,18 @@ fresh-accepted khz nb e f =
           (record {
             «loss_cnt» = refl;
             «lag_prev» = λ l. absurd (not-suc-le-zero l);
-            «prev_signal_type» = lies 0 2 0 (lit≤ tt) (lit≤ tt);
-            «prev_gain_q16» = lies 65536 1686110208 65536 (lit≤ tt) (lit≤ tt);
-            «first_frame_after_reset» = lies 0 1 1 (lit≤ tt) (lit≤ tt);
+            «prev_signal_type» = in-range 0 2 0 (lit≤ tt) (lit≤ tt);
+            «prev_gain_q16» = in-range 65536 1686110208 65536 (lit≤ tt) (lit≤ tt);
+            «first_frame_after_reset» = in-range 0 1 1 (lit≤ tt) (lit≤ tt);
             «prev_nlsf_q15» = zeros-between 32767 16 (orderOf (rateOf khz));
           })
           (record {
-            «last_frame_lost» = lies 0 1 0 (lit≤ tt) (lit≤ tt);
+            «last_frame_lost» = in-range 0 1 0 (lit≤ tt) (lit≤ tt);
             «ltp_coef_q14» = record { first = refl; second = refl; low = zero-le; high = zero-le; fourth = refl; fifth = refl };
-            «rand_scale_q14» = lies 0 27840 0 (lit≤ tt) (lit≤ tt);
-            «prev_ltp_scale_q14» = lies 0 16384 0 (lit≤ tt) (lit≤ tt);
+            «rand_scale_q14» = in-range 0 27840 0 (lit≤ tt) (lit≤ tt);
+            «prev_ltp_scale_q14» = in-range 0 16384 0 (lit≤ tt) (lit≤ tt);
             «conc_energy» = refl;
-            «conc_energy_shift» = lies 0 31 0 (lit≤ tt) (lit≤ tt);
+            «conc_energy_shift» = in-range 0 31 0 (lit≤ tt) (lit≤ tt);
             held = λ z. absurd (no-rate-0 khz e z);
           })
           (λ z. absurd (no-rate-0 khz e z));

@@ -11,6 +11,7 @@ use Rattle.refusal.specs.declared.Refusal.{Refusal}
 use Rattle.refusal.specs.declared.Refusal.the-variants.{Nothing}
 use Rattle.refusal.proofs.Clear.{Clear, passed, first-append, from, refused-from}
 use Rattle.shape.specs.Shape.{rateOf}
+use Rattle.decoder.proofs.Bounds.{clear-state}
 use Rattle.decoder.specs.Rows.{stateRows}
 use Rattle.decoder.specs.Accepted.{Accepted}
 use Rattle.decoder.specs.declared.SilkDecoderState.{SilkDecoderState}
@@ -23,12 +24,8 @@ use Rattle.judge.specs.Rows.{frameRows}
 abbrev pub From : ℕ → Refusal → Type 0
 From k r = (refusalNumber r ≡ 0) ⊎ (k ≤ refusalNumber r)
 
--- rows 1 to 3 do not apply
-pub state-clear : (s : SilkDecoderState) → Accepted (rateOf (s .«fs_khz»)) s → Clear (stateRows s)
-state-clear s h = (h .rate, (h .size, (h .history, tt)))
-
 pub past-state : (s : SilkDecoderState) (rows : List Row) → Accepted (rateOf (s .«fs_khz»)) s → firstOf (stateRows s ++ rows) ≡ firstOf rows
-past-state s rows h = first-append (stateRows s) rows Nothing ∙ passed (stateRows s) (firstOf rows) (state-clear s h)
+past-state s rows h = first-append (stateRows s) rows Nothing ∙ passed (stateRows s) (firstOf rows) (clear-state s h)
 
 -- the rows after those of an accepted state decide
 later : (k : ℕ) (s : SilkDecoderState) (rows : List Row) → from k rows ≡ true → Accepted (rateOf (s .«fs_khz»)) s → From k (firstOf (stateRows s ++ rows))

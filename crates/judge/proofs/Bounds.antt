@@ -26,9 +26,9 @@ use Rattle.decoder.specs.declared.SilkDecoderControl.{SilkDecoderControl}
 use Rattle.decoder.specs.declared.Params.{Params}
 use Rattle.judge.specs.Taps.{tapSum, tapsFit}
 use Rattle.judge.specs.Rows.{signalRow, gainRow, lagRow, tapsRow, lengthRow, paramRows, receivedRows, lostRows, coreRows, plcReceivedRows, glueRows, cngRows}
-use Rattle.word.proofs.Rows.{both}
+use Rattle.word.proofs.Rows.{both, neither}
+use Rattle.decoder.proofs.Bounds.{state-clear}
 use Rattle.decoder.proofs.Between.{Between, only, between, all-between}
-use Rattle.judge.proofs.Ends.{neither}
 use Rattle.judge.proofs.Sums.{each-fits}
 
 -- ---- rows 5 to 8
@@ -119,9 +119,6 @@ only-off : (a b : Bool) → a ≡ true → (a && b) ≡ false → b ≡ false
 only-off true b h e = e
 only-off false b h e = absurd (false≢true h)
 
-accepted : (s : SilkDecoderState) → Clear (stateRows s) → Accepted (rateOf (s .«fs_khz»)) s
-accepted s h = record { rate = h .0; size = h .1 .0; history = h .1 .1 .0 }
-
 pub received-fits : (s : SilkDecoderState) (q : Params) (c : SilkDecoderControl) (lines : List ℤ) (pulses output : ℕ) → refusalNumber (firstOf (receivedRows s q c lines pulses output)) ≡ 0 → ReceivedFits s q c lines pulses output
 received-fits s q c lines pulses output e =
     let f = met (stateRows s) _ refl e in
@@ -130,7 +127,7 @@ received-fits s q c lines pulses output e =
     record {
       core =
           record {
-            accepted = accepted s (f .0);
+            accepted = state-clear s (f .0);
             params = params-fit (shapeOf s) q c (g .0);
             pulses-lent = ltb-false pulses (frameLength (shapeOf s)) (h .1 .0);
             output-lent = ltb-false output (frameLength (shapeOf s)) (h .1 .1 .0);
@@ -143,7 +140,7 @@ lost-fits s output e =
     let f = met (stateRows s) _ refl e in
     let h = clear _ Nothing refl (f .1) .0 in
     record {
-      accepted = accepted s (f .0);
+      accepted = state-clear s (f .0);
       not-full = h .0;
       output-lent = ltb-false output (frameLength (shapeOf s)) (h .1 .0);
     }
@@ -154,7 +151,7 @@ core-fits s q c pulses output e =
     let g = met (paramRows (shapeOf s) q c) _ refl (f .1) in
     let h = clear _ Nothing refl (g .1) .0 in
     record {
-      accepted = accepted s (f .0);
+      accepted = state-clear s (f .0);
       params = params-fit (shapeOf s) q c (g .0);
       pulses-lent = ltb-false pulses (frameLength (shapeOf s)) (h .0);
       output-lent = ltb-false output (frameLength (shapeOf s)) (h .1 .0);
@@ -163,19 +160,19 @@ core-fits s q c pulses output e =
 pub plc-received-fits : (s : SilkDecoderState) (q : Params) (c : SilkDecoderControl) → refusalNumber (firstOf (plcReceivedRows s q c)) ≡ 0 → PlcReceivedFits s q c
 plc-received-fits s q c e =
     let f = met (stateRows s) _ refl e in
-    record { accepted = accepted s (f .0); params = params-fit (shapeOf s) q c (clear _ Nothing refl (f .1) .0) }
+    record { accepted = state-clear s (f .0); params = params-fit (shapeOf s) q c (clear _ Nothing refl (f .1) .0) }
 
 pub glue-fits : (s : SilkDecoderState) (lent length : ℕ) → refusalNumber (firstOf (glueRows s lent length)) ≡ 0 → GlueFits s lent length
 glue-fits s lent length e =
     let f = met (stateRows s) _ refl e in
-    record { accepted = accepted s (f .0); length-fit = length-fits lent length (clear _ Nothing refl (f .1) .0 .0) }
+    record { accepted = state-clear s (f .0); length-fit = length-fits lent length (clear _ Nothing refl (f .1) .0 .0) }
 
 pub cng-fits : (s : SilkDecoderState) (c : SilkDecoderControl) (lent length : ℕ) → refusalNumber (firstOf (cngRows s c lent length)) ≡ 0 → CngFits s c lent length
 cng-fits s c lent length e =
     let f = met (stateRows s) _ refl e in
     let h = clear _ Nothing refl (f .1) .0 in
     record {
-      accepted = accepted s (f .0);
+      accepted = state-clear s (f .0);
       gains = λ z. gains-fit (shapeOf s) c (only-off (eqℤ (s .«loss_cnt») (pos 0)) (gainRow (shapeOf s .subframes) c) z (h .0));
       length-fit = length-fits lent length (h .1 .0);
     }

@@ -1,7 +1,7 @@
--- Two tests of which neither holds, and a range from 0 on by a test of each end.
+-- A range from 0 on, by a test of each end.
 use Prim.Native.Nat.{ℕ, suc}
 use mathlib.Core.Path.{_≡_, refl, sym}
-use mathlib.Core.Bool.{Bool, true, false, _||_, false≢true}
+use mathlib.Core.Bool.{true, false, false≢true}
 use native.Mathlib.Omega.{arith}
 use native.Mathlib.Nat.{not-suc-le-zero}
 use borrow.Author.Tests.{le-leb, ltb-true}
@@ -9,10 +9,6 @@ use lib.Dec.{leb·suc-suc}
 use lib.IntN.{ℤ, pos, negsuc}
 use lib.Signed.{ltZ}
 use Rattle.decoder.specs.Ranges.{within}
-
-pub neither : (a b : Bool) → (a || b) ≡ false → (a ≡ false) × (b ≡ false)
-neither true b e = absurd (false≢true (sym e))
-neither false b e = (refl, e)
 
 pub below : (k : ℕ) (z : ℤ) → ltZ z (pos 0) ≡ true → within (pos 0) (pos k) z ≡ false
 unfolding within

@@ -1,18 +1,14 @@
 -- Lists stored one after the other.
 use Prim.Native.Nat.{ℕ, _+_, _-_, _≤_}
 use mathlib.Core.Path.{_≡_, sym, ap, _∙_}
-use mathlib.Core.List.{List, _++_, append-nil, append-assoc}
+use mathlib.Core.List.{List, _++_, append-assoc}
 use native.Mathlib.Omega.{arith}
 use native.Mathlib.Nat.{zero-add, add-assoc, add-sub-cancel-left}
-use lib.ListN.{length, take, drop, length-append, length-take, length-drop, drop-of-length-le}
+use lib.ListN.{length, take, drop, length-append, length-take, length-drop}
 use lib.Seq.{take-append-seam, drop-append-add, drop-drop, length-take-le}
 use lib.IntN.{ℤ}
 use Rattle.sigproc.specs.Place.{putAt}
-
--- a list stored over one of its own length
-pub put-whole : (d s : List ℤ) → length d ≡ length s → putAt d 0 s ≡ s
-unfolding putAt
-put-whole d s e = rw (zero-add, drop-of-length-le d {i = length s} (omega arith)) (append-nil s)
+use Rattle.sigproc.proofs.Places.{put-whole}
 
 -- a part of n numbers has n
 pub length-part : (xs : List ℤ) (at n : ℕ) → at + n ≤ length xs → length (take n (drop at xs)) ≡ n

@@ -13,7 +13,7 @@ use Rattle.refusal.specs.Refusals.{refusalNumber}
 use Rattle.refusal.specs.declared.Refusal.the-variants.{Nothing, Line, Order}
 use Rattle.nlsf.specs.Lines.{negativeLine}
 use Rattle.nlsf.specs.Filter.{orderRefused, nlsf2aRefusal}
-use Rattle.nlsf.proofs.Lines.{neither}
+use Rattle.word.proofs.Rows.{neither}
 
 one-of : (d : ℕ) → (not (eqb d 10) && not (eqb d 16)) ≡ false → (d ≡ 10) ⊎ (d ≡ 16)
 one-of d = go (eqb d 10) (eqb d 16) refl refl

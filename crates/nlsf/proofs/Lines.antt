@@ -12,6 +12,7 @@ use lib.ListN.{getD}
 use lib.Signed.{ltZ, nonNeg, mag}
 use mir.Syntax.{w16, w32}
 use mir.Val.{SFits}
+use Rattle.word.proofs.Rows.{neither}
 use Rattle.word.specs.Int.{wrap32}
 use Rattle.word.specs.Size.{Bounded}
 use Rattle.word.proofs.Rows.{both}
@@ -54,11 +55,6 @@ nonneg (negsuc n) e = let z : _≡_ {A = ℕ} 0 1 = cc in absurd (omega arith)
 pub nonneg-lt : (z : ℤ) (H : ℕ) → ltZ z (pos 0) ≡ false → mag z < H → natAbs z < H
 nonneg-lt (pos n) H e h = h
 nonneg-lt (negsuc n) H e h = let z : _≡_ {A = ℕ} 0 1 = cc in absurd (omega arith)
-
--- neither of two tests
-pub neither : (a b : Bool) → (a || b) ≡ false → (a ≡ false) × (b ≡ false)
-neither true b e = let z : _≡_ {A = ℕ} 0 1 = cc in absurd (omega arith)
-neither false b e = (refl, e)
 
 pub line-nonneg : (lines : List ℤ) (d k : ℕ) → negativeLine lines d ≡ false → k < d → ltZ (getD lines k (pos 0)) (pos 0) ≡ false
 unfolding negativeLine

@@ -11,11 +11,7 @@ use lib.ListN.{length, getD, take, drop, replicate, take-append-drop}
 use lib.Seq.{ext-getD, getD-take, length-take-le}
 use Rattle.word.specs.Tabulate.{tabulate}
 use Rattle.word.proofs.Lists.{length-tabulate, getD-tabulate}
-
-pub zero-at : (n i : ℕ) → getD (replicate n (pos 0)) i (pos 0) ≡ pos 0
-zero-at zero i = refl
-zero-at (suc n) zero = refl
-zero-at (suc n) (suc i) = zero-at n i
+use Rattle.decoder.proofs.SetUps.{zero-at}
 
 -- a list of zeros, before a table that starts at a place
 pub zeros-before : (d : List ℤ) (from : ℕ) (g : ℕ → ℤ) → from ≤ length d → ((i : ℕ) → getD d i (pos 0) ≡ pos 0)

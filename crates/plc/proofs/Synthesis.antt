@@ -16,13 +16,6 @@ pub part : (l : List ℤ) (m n : ℕ) → m ≤ length l → drop m (take (m + n
 part l m n h =
     ap (drop m) (take-add m n l) ∙ drop-at (take m l) (take n (drop m l)) m (length-take-le m l h)
 
--- a whole list stored
-pub put-whole : (z x : List ℤ) → length x ≡ length z → putAt z 0 x ≡ x
-unfolding putAt
-put-whole z x e =
-    let n : drop (0 + length x) z ≡ [] = drop-of-length-le z {i = 0 + length x} (omega arith) in
-    rw n (append-nil x)
-
 -- the last elements of the second of three lists
 inside : (p s q : List ℤ) (m j i : ℕ) → m ≡ length p + j → j + i ≡ length s → take i (drop m (p ++ (s ++ q))) ≡ drop j s
 inside p s q m j i e h =

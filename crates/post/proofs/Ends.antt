@@ -4,10 +4,7 @@ use mathlib.Core.Path.{_≡_, refl, sym, ap, _∙_}
 use mathlib.Core.Bool.{Bool, true, false, _||_, false≢true}
 use borrow.Author.Tests.{ltb-false}
 use lib.Dec.{ltb}
-
-neither : (a b : Bool) → (a || b) ≡ false → (a ≡ false) × (b ≡ false)
-neither true b e = absurd (false≢true (sym e))
-neither false b e = (refl, e)
+use Rattle.word.proofs.Rows.{neither}
 
 -- two lengths that are not too short
 pub long : {a b m n : ℕ} → (ltb a m || ltb b n) ≡ false → (m ≤ a) × (n ≤ b)

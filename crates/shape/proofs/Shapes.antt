@@ -108,6 +108,12 @@ rate-range (at8 e) = (omega arith, omega arith)
 rate-range (at12 e) = (omega arith, omega arith)
 rate-range (at16 e) = (omega arith, omega arith)
 
+pub order-two : {r : ℕ} → Rates r → (orderOf r ≡ 10) ⊎ (orderOf r ≡ 16)
+unfolding orderOf
+order-two (at8 e) = inl (rw e refl)
+order-two (at12 e) = inl (rw e refl)
+order-two (at16 e) = inr (rw e refl)
+
 pub order-range : {r : ℕ} → Rates r → (10 ≤ orderOf r) × (orderOf r ≤ 16)
 unfolding orderOf
 order-range (at8 e) = rw e (lit≤ tt, lit≤ tt)

@@ -4,7 +4,7 @@ use mathlib.Core.Path.{_≡_, sym, ap, _∙_}
 use mathlib.Core.List.{List, _++_, append-nil}
 use native.Mathlib.Omega.{arith}
 use native.Mathlib.Nat.{zero-add}
-use lib.ListN.{length, take, drop, length-append, length-take, length-drop}
+use lib.ListN.{length, take, drop, length-append, length-take, length-drop, drop-of-length-le}
 use lib.Seq.{take-append-seam, drop-append-add, drop-drop, drop-length, take-all, take-at, take-add, drop-at, take-append-le, length-take-le}
 use lib.IntN.{ℤ}
 use Rattle.sigproc.specs.Place.{putAt, rotateLeft, updateOutBuf}
@@ -12,6 +12,11 @@ use Rattle.sigproc.specs.Place.{putAt, rotateLeft, updateOutBuf}
 pub length-putAt : (d : List ℤ) (at : ℕ) (s : List ℤ) → at + length s ≤ length d → length (putAt d at s) ≡ length d
 unfolding putAt
 length-putAt d at s h = simp (length-append, length-take, length-drop) (omega arith)
+
+-- a list stored over one of its own length
+pub put-whole : (d s : List ℤ) → length d ≡ length s → putAt d 0 s ≡ s
+unfolding putAt
+put-whole d s e = rw (zero-add (length s), drop-of-length-le d {i = length s} (omega arith)) (append-nil s)
 
 -- two parts that together are as long as the whole, stored one after the other
 pub put-two : (z a b : List ℤ) → length a + length b ≡ length z → putAt (putAt z 0 a) (length a) b ≡ a ++ b

@@ -2,10 +2,10 @@ use mathlib.Core.Path.{_≡_, ap, _∙_}
 use borrow.Author.Needs.{needs}
 use mir.Facts.{toZ-ofZ}
 use Rattle.shape.specs.Shape.{orderOf, rateOf}
-use Rattle.shape.proofs.Shapes.{rates}
+use Rattle.shape.proofs.Shapes.{rates, order-two}
 use Rattle.decoder.proofs.Bounds.{cng-bounds}
 use Rattle.cng.specs.Noise.{cngReady}
-use Rattle.cng.proofs.Lines.{order-two, none-negative, ready-held}
+use Rattle.cng.proofs.Lines.{none-negative, ready-held}
 use Rattle.cng.proofs.lost.Statement.{statement}
 use Rattle.cng.proofs.lost.Tie as tie
 

@@ -5,7 +5,7 @@ use native.Mathlib.Omega.{arith}
 use borrow.Author.Needs.{needs}
 use lib.ListN.{take, drop}
 use lib.Seq.{take-append-le, length-take-le}
-use Rattle.decode_core.proofs.Short.{put-whole}
+use Rattle.sigproc.proofs.Places.{put-whole}
 use Rattle.decode_core.proofs.Frames.{zeros-words, length-signal, memory-front, memory-in, finished}
 use Rattle.decode_core.proofs.synthesise.Statement.{statement}
 use Rattle.decode_core.proofs.synthesise.Tie as tie

@@ -5,7 +5,7 @@ use native.Mathlib.Omega.{arith}
 use borrow.Author.Needs.{needs}
 use lib.ListN.{length, take, drop, length-drop}
 use lib.Seq.{length-take-le}
-use Rattle.decode_core.proofs.Short.{put-whole}
+use Rattle.sigproc.proofs.Places.{put-whole}
 use Rattle.decode_core.proofs.taps_at.Statement.{statement}
 use Rattle.decode_core.proofs.taps_at.Tie as tie
 

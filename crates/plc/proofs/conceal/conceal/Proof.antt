@@ -13,7 +13,7 @@ use Rattle.stability.proofs.Steps.{got}
 use Rattle.sigproc.specs.Synthesis.{synthesis, played}
 use Rattle.shape.specs.Shape.{Shape, orderOf}
 use Rattle.plc.specs.Conceal.{Voice, lagOf, laterGain, voiceBy, signalBy, heldBy, concealedBy}
-use Rattle.plc.proofs.Fill.{zero-at}
+use Rattle.decoder.proofs.SetUps.{zero-at}
 use Rattle.plc.proofs.conceal.conceal.Statement.{statement}
 use Rattle.plc.proofs.conceal.conceal.Tie as tie
 

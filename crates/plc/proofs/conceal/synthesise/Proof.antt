@@ -11,7 +11,8 @@ use mir.Facts.{toZ-ofZ}
 use Rattle.sigproc.specs.Place.{putAt}
 use Rattle.sigproc.specs.Synthesis.{synthesis, played}
 use Rattle.sigproc.proofs.Filter.{memory-length}
-use Rattle.plc.proofs.Synthesis.{made-in, samples, memory-after, put-whole}
+use Rattle.sigproc.proofs.Places.{put-whole}
+use Rattle.plc.proofs.Synthesis.{made-in, samples, memory-after}
 use Rattle.plc.proofs.conceal.synthesise.Statement.{statement}
 use Rattle.plc.proofs.conceal.synthesise.Tie as tie
 
@@ -53,7 +54,7 @@ returns c =
     ap (λ (x : List ℤ). take (mem + len - mem) (drop mem (putMid (mem - 16) (mem + len - (mem - 16)) b x))) e
     ∙ samples (a .buf .now) (a .t2) (a .a .now) (a .d) mem len m16 (s .pre .1) (s .pre .3) b (p .copy32-at .kept .0) in
     let g = toZ-ofZ (s .fits .«gain-q16») in (
-      c .before .copy32-at2 .ensures ∙ ap (putAt (a .t2) 0) first ∙ put-whole (a .t2) (drop len made) after,
+      c .before .copy32-at2 .ensures ∙ ap (putAt (a .t2) 0) first ∙ put-whole (a .t2) (drop len made) (sym after),
       ap (λ (x : List ℤ). x ++ drop len (a .xq .now)) (o .scale-out .ensures ∙ (λ i. map (played (g i)) (second i))),
     )
 
