@@ -1,5 +1,5 @@
 // Plays a recorded stream: standard input has the stream, standard output gets a WAV file, standard error the report.
-// The report's last line counts the frames, if the whole stream was played; else it says why not.
+// The report has the stream's rate and seconds; its last line counts the frames, if the whole stream was played, else it says why not.
 use decode_frame::silk_decode_frame;
 use decoder::SilkDecoderState;
 use decoder::set_up;
@@ -119,7 +119,7 @@ fn read_record(kind: u8, n: usize) -> Record
     }
 }
 
-// The samples that end a record, which the C decoder played, are passed over.
+// The samples that end a record, which another decoder played, are passed over.
 fn pass_samples(n: usize) -> bool
     requires { ⌜ n ≤ 640 ⌝ }
 {
@@ -277,6 +277,23 @@ fn play_records(s: SilkDecoderState, n: usize, records: u32)
     say_tally(t);
 }
 
+// A frame of 2 subframes has 10 ms, one of 4 has 20.
+fn say_stream(h: Head) {
+    let frames = h.records as u64;
+    let ms = if h.subframes == 2 {
+        10 * frames
+    } else {
+        20 * frames
+    };
+    say_number(h.rate as u64);
+    say(b" kHz, ");
+    say_number(ms / 1000);
+    say(b".");
+    say_number(ms / 100 % 10);
+    say_number(ms / 10 % 10);
+    say(b" s\n");
+}
+
 fn play(h: Head) {
     let rate = signed8(h.rate);
     let subframes = signed8(h.subframes);
@@ -294,7 +311,10 @@ fn main() {
     let mut header = [0u8; 16];
     let got = io::read_full(STDIN_FILENO, &mut header);
     match read_header(&header, got) {
-        Opened::Stream(h) => play(h),
+        Opened::Stream(h) => {
+            say_stream(h);
+            play(h)
+        }
         Opened::Cut => say(b"no stream: the file ends within its first 16 bytes\n"),
         Opened::Foreign => say(b"no stream: the file has another format\n"),
         Opened::Rate(rate) => {
