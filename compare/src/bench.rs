@@ -106,12 +106,12 @@ measured! {
 /// Every measured call of one shape's streams, from the states in which the reference meets them.
 fn calls(folder: &Path, (rate, subframes): (i32, i32)) -> Result<Vec<Call>, String> {
     let mut calls = vec![];
-    for file in streams::folder(folder)? {
+    for file in streams::files(folder)? {
         let stream = streams::read(&file)?;
         if (stream.rate, stream.subframes) != (rate, subframes) {
             continue;
         }
-        streams::play(&stream, |call| {
+        streams::play_as_recorded(&stream, |call| {
             if call.what == What::Received {
                 calls.extend([call.clone(), Call { what: What::Core, ..call.clone() }]);
             }

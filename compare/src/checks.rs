@@ -165,14 +165,15 @@ impl Options {
     pub fn stream(&self, file: &Path) -> bool {
         let library = [What::SetUp, What::Received, What::Lost].iter().all(|what| self.has(*what));
         let played = streams::read(file).and_then(|stream| {
-            streams::play(&stream, |call| Ok(call::reference(call))).map_err(|why| format!("{}: the reference: {why}", stream.name))?;
+            streams::play_as_recorded(&stream, |call| Ok(call::reference(call)))
+                .map_err(|why| format!("{}: the reference: {why}", stream.name))?;
             if library {
                 let made = |call: &mut Call| {
                     let (answer, after) = self.both(call)?;
                     *call = after;
                     Ok(answer)
                 };
-                streams::play(&stream, made).map_err(|why| format!("{}: the library: {why}", stream.name))?;
+                streams::play_as_recorded(&stream, made).map_err(|why| format!("{}: the library: {why}", stream.name))?;
             }
             let who = if library { "reference and library play" } else { "reference plays" };
             Ok(format!("{}: {who} all {} records as recorded", stream.name, stream.records.len()))

@@ -26,7 +26,7 @@ use std::panic::catch_unwind;
 use std::path::{Path, PathBuf};
 use std::process::ExitCode;
 
-const USAGE: &str = "compare/run SOURCES [--seed S] [--from CASE] [--count N] [--streams FOLDER] [--self] [WHAT ...]";
+const USAGE: &str = "compare/run SOURCES [--seed S] [--from CASE] [--count N] [--streams STREAMS] [--self] [WHAT ...]";
 const OTHERS: [&str; 5] = ["rows", "lists", "streams", "firmware", "examples"];
 
 fn main() -> ExitCode {
@@ -38,6 +38,7 @@ fn main() -> ExitCode {
         ["bench", folder, ref options @ ..] if options.iter().all(|option| ["--self", "--time"].contains(option)) => {
             bench::bench(Path::new(folder), options.contains(&"--self"), options.contains(&"--time")).map(|()| true)
         }
+        ["record", from, to] => streams::record(Path::new(from), Path::new(to)).map(|()| true),
         ["answers", streams, folder] => answers::write(Path::new(streams), Path::new(folder)).map(|()| true),
         ["count", folder, shape] => bench::count(Path::new(folder), shape).map(|()| true),
         _ => Err(USAGE.into()),
@@ -63,54 +64,51 @@ fn run(words: &[&str]) -> Result<bool, String> {
         match word {
             "--seed" => options.seed = number(value()?)?,
             "--from" => options.from = number(value()?)?,
-            "--count" => options.count = number(value()?)?,
+            "--count" => match number(value()?)? {
+                0 => return Err("--count 0: nothing would be compared".into()),
+                count => options.count = count,
+            },
             "--streams" => options.streams = Some(PathBuf::from(value()?)),
             "--self" => options.own = true,
             _ if OTHERS.contains(&word) || What::ALL.iter().any(|(_, name, _)| *name == word) => named.push(word),
             _ => return Err(format!("{word}?\n{USAGE}")),
         }
     }
+    let files = options.streams.as_deref().map(streams::files).transpose()?;
     let wanted = |name: &str| named.is_empty() || named.contains(&name);
+    let absent = |name: &str| {
+        println!("{name}: absent from the library");
+        false
+    };
     let mut outcomes = vec![];
     if wanted("rows") {
         outcomes.push(options.rows());
     }
-    for (what, name, _) in What::ALL {
-        if !wanted(name) {
-            continue;
-        }
-        if options.has(what) {
-            outcomes.push(options.function(what));
-        } else {
-            println!("{name}: absent from the library");
-        }
+    for (what, name, _) in What::ALL.into_iter().filter(|(_, name, _)| wanted(name)) {
+        outcomes.push(if options.has(what) { options.function(what) } else { absent(name) });
     }
     let frames = options.has(What::Received) && options.has(What::Lost);
     if wanted("lists") {
-        if frames {
-            outcomes.push(options.lists());
-        } else {
-            println!("lists: absent from the library");
-        }
+        outcomes.push(if frames { options.lists() } else { absent("lists") });
     }
     for name in ["streams", "firmware"].into_iter().filter(|name| wanted(name)) {
-        match &options.streams {
-            _ if name == "firmware" && !frames => println!("{name}: absent from the library"),
-            Some(folder) => {
-                for file in streams::folder(folder)? {
-                    outcomes.push(if name == "streams" { options.stream(&file) } else { options.firmware(&file) });
-                }
-            }
-            None if named.is_empty() => println!("{name}: no folder is named"),
-            None => return Err(format!("{name}: --streams FOLDER is needed")),
+        match &files {
+            _ if name == "firmware" && !frames => outcomes.push(absent(name)),
+            Some(files) if name == "streams" => outcomes.extend(files.iter().map(|file| options.stream(file))),
+            Some(files) => outcomes.extend(files.iter().map(|file| options.firmware(file))),
+            None if named.is_empty() => println!("{name}: no stream is named"),
+            None => return Err(format!("{name}: --streams STREAMS is needed")),
         }
     }
     if wanted("examples") {
         match (&options.streams, std::env::var_os("COMPARE_EXAMPLES")) {
-            (Some(folder), Some(script)) if !options.own && frames => outcomes.push(checks::examples(&script, folder)),
-            _ if named.is_empty() => println!("examples: need the library and a folder of streams"),
-            _ => return Err("examples: the library and --streams FOLDER are needed".into()),
+            (Some(place), Some(script)) if !options.own && frames => outcomes.push(checks::examples(&script, place)),
+            _ if named.is_empty() => println!("examples: need the library and a stream"),
+            _ => return Err("examples: the library and --streams STREAMS are needed".into()),
         }
+    }
+    if outcomes.is_empty() {
+        return Err("nothing was compared".into());
     }
     let passed = outcomes.iter().filter(|passed| **passed).count();
     println!("{passed} passed, {} failed", outcomes.len() - passed);

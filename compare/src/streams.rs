@@ -1,6 +1,7 @@
-//! Recorded streams: frames of speech with the samples that the C played.
+//! Recorded streams: frames of speech with the samples that a decoder played for them.
 
-use crate::call::{Call, Draft, What};
+use crate::call::{self, Call, Draft, What};
+use crate::draw::SHAPES;
 use std::fs;
 use std::path::{Path, PathBuf};
 
@@ -37,16 +38,22 @@ impl Bytes<'_> {
     }
 }
 
-/// The streams of a folder, by name.
-pub fn folder(folder: &Path) -> Result<Vec<PathBuf>, String> {
-    let entries = fs::read_dir(folder).map_err(|why| format!("{}: {why}", folder.display()))?;
+/// The streams of a folder, by name, or the one stream that is named.
+pub fn files(place: &Path) -> Result<Vec<PathBuf>, String> {
+    if place.is_file() {
+        return Ok(vec![place.into()]);
+    }
+    let entries = fs::read_dir(place).map_err(|why| format!("{}: {why}", place.display()))?;
     let mut files: Vec<PathBuf> = entries.filter_map(|entry| Some(entry.ok()?.path())).collect();
     files.retain(|file| file.extension().is_some_and(|end| end == "vec"));
     files.sort();
+    if files.is_empty() {
+        return Err(format!("{}: it has no stream (*.vec)", place.display()));
+    }
     Ok(files)
 }
 
-/// Reads a stream. What is to be played is `.rust.pcm` where there is one, else the C's samples.
+/// Reads a stream. What is to be played is its `.rust.pcm` where there is one, else the samples in its records.
 pub fn read(file: &Path) -> Result<Stream, String> {
     let name = file.file_name().unwrap().to_string_lossy().into_owned();
     let named = |why: String| format!("{name}: {why}");
@@ -71,13 +78,23 @@ fn parse(bytes: &mut Bytes) -> Result<Stream, String> {
     if bytes.take()? != *b"SILKVEC1" {
         return Err("no stream".into());
     }
-    let [rate, subframes, _, _] = bytes.take()?.map(i32::from);
-    let count = bytes.long()?;
+    let [rate, subframes, zeros @ ..] = bytes.take::<4>()?.map(i32::from);
+    if !SHAPES.contains(&(rate, subframes)) || zeros != [0, 0] {
+        return Err(format!("no stream of the decoder: {rate} kHz, {subframes} subframes, then {zeros:?}"));
+    }
+    let count = u32::from_le_bytes(bytes.take()?);
+    if count == 0 {
+        return Err("it has no record".into());
+    }
     let mut records = vec![];
-    for _ in 0..count {
-        let [kind] = bytes.take()?;
-        let mut draft = Draft::plain(if kind == 1 { What::Received } else { What::Lost }, rate, subframes);
-        if kind == 1 {
+    for index in 0..count {
+        let what = match bytes.take()? {
+            [0] => What::Lost,
+            [1] => What::Received,
+            [kind] => return Err(format!("record {index} has the kind {kind}")),
+        };
+        let mut draft = Draft::plain(what, rate, subframes);
+        if what == What::Received {
             let (indices, control) = (&mut draft.dec.indices, &mut draft.control);
             indices.signal_type = bytes.small()?;
             indices.quant_offset_type = bytes.small()?;
@@ -104,8 +121,10 @@ fn parse(bytes: &mut Bytes) -> Result<Stream, String> {
     Ok(Stream { name: String::new(), rate, subframes, records })
 }
 
-/// Plays a stream from set-up; what isn't played as recorded, if anything.
-pub fn play(stream: &Stream, mut make: impl FnMut(&mut Call) -> Result<i32, String>) -> Result<(), String> {
+/// Plays a stream from set-up, and hands on what each record's frame plays.
+pub fn play(
+    stream: &Stream, mut make: impl FnMut(&mut Call) -> Result<i32, String>, mut heard: impl FnMut(usize, &[i16]) -> Result<(), String>,
+) -> Result<(), String> {
     let mut set_up = Draft::plain(What::SetUp, stream.rate, stream.subframes).call();
     set_up.words.fill(-1);
     set_up.halves.fill(-1);
@@ -115,14 +134,43 @@ pub fn play(stream: &Stream, mut make: impl FnMut(&mut Call) -> Result<i32, Stri
     };
     played(&mut set_up)?;
     let (mut words, mut halves) = (set_up.words, set_up.halves);
-    for (index, (record, samples)) in stream.records.iter().enumerate() {
+    for (index, (record, _)) in stream.records.iter().enumerate() {
         let mut call = record.clone();
         (call.words, call.halves) = (words, halves);
-        played(&mut call).map_err(|why| format!("record {index}: {why}"))?;
-        if let Some(at) = (0..samples.len()).find(|at| call.output[*at] != samples[*at]) {
-            return Err(format!("record {index}: sample {at} is {}, recorded is {}", call.output[at], samples[at]));
-        }
+        played(&mut call).and_then(|()| heard(index, &call.output)).map_err(|why| format!("record {index}: {why}"))?;
         (words, halves) = (call.words, call.halves);
     }
     Ok(())
+}
+
+/// Plays a stream from set-up; what isn't played as recorded, if anything.
+pub fn play_as_recorded(stream: &Stream, make: impl FnMut(&mut Call) -> Result<i32, String>) -> Result<(), String> {
+    play(stream, make, |index, output| {
+        let samples = &stream.records[index].1;
+        match (0..samples.len()).find(|at| output[*at] != samples[*at]) {
+            Some(at) => Err(format!("sample {at} is {}, recorded is {}", output[at], samples[at])),
+            None => Ok(()),
+        }
+    })
+}
+
+/// Writes a stream with the samples that the Rust plays in place of those in its records.
+pub fn record(from: &Path, to: &Path) -> Result<(), String> {
+    let stream = read(from)?;
+    let mut bytes = fs::read(from).map_err(|why| format!("{}: {why}", from.display()))?;
+    let mut at = 16;
+    play(
+        &stream,
+        |call| Ok(call::reference(call)),
+        |index, output| {
+            let length = 2 * output.len();
+            at += if stream.records[index].0.what == What::Received { 177 + length } else { 1 };
+            for (to, sample) in bytes[at..at + length].chunks_exact_mut(2).zip(output) {
+                to.copy_from_slice(&sample.to_le_bytes());
+            }
+            at += length;
+            Ok(())
+        },
+    )?;
+    fs::write(to, bytes).map_err(|why| format!("{}: {why}", to.display()))
 }
