@@ -10,7 +10,10 @@ unset POST_LIBRARY
 if [ "${2:-}" = --self ]; then
     target=$target/self
 elif grep -q '^post:' "$top/crates.txt"; then
-    (cd "$top" && rt staticlib post) >&2
+    mkdir -p "$target"
+    log=$target/staticlib.log
+    echo 'compare: rt staticlib post proves and builds the library' >&2
+    (cd "$top" && rt staticlib post) >"$log" 2>&1 || { cat "$log" >&2; exit 1; }
     POST_LIBRARY=$top/target/staticlib/libpost.a
     export POST_LIBRARY
 fi
