@@ -1,9 +1,49 @@
-/* The yard post's SILK back end, built by `rt staticlib post` (target/staticlib/libpost.a).
+/* The yard post's SILK back end: a frame's decoded parameters in, its samples out.
  *
- * A slice is a pointer and the count of its elements. Every function answers 0, a refusal's
- * number, or -1 where a slice is shorter than its size below; then nothing is written. What
- * lies past a slice's size is left alone. The state is `words` and `halves`, both plain
- * numbers: they can be copied, stored and compared. */
+ * `rt staticlib post` builds it (target/staticlib/libpost.a), for x86-64 Linux alone. It calls
+ * memcpy and memset and nothing else, and has no variables of its own: calls on different states
+ * may run at the same time. A call takes up to 25,880 bytes of stack (docs/BENCHMARKS.md).
+ *
+ * A slice is a pointer and the count of its elements. The slices of one call may not overlap, not
+ * even pulses and output: the proofs rest on it.
+ *
+ * Every function but post_played answers one of
+ *     0           done
+ *    -1           a slice is shorter than its POST_ size below, or result is empty
+ *     1 to 13     the first refusal that applies (enum post_refusal)
+ * of which -1 comes first. Pulses, output, buffer, coefficients and the lines of post_filter have no
+ * such size: 10 to 13 say that they are too short. A call that does not answer 0 writes nothing. One
+ * that does leaves what lies past a slice's size, past a frame's samples, past a length or past an
+ * order as it was.
+ *
+ * r is the rate in kHz and n the count of subframes that post_set_up was given; a frame has 5rn
+ * samples. The order is 10 at 8 and 12 kHz, 16 at 16 kHz. Qk is a number times 2^k.
+ *
+ * words, halves  the state. Plain numbers: they may be copied, stored and compared. Fields have the
+ *                names of opus-pure's SilkDecoderState, and one after the other these places:
+ *     words      0 prev_gain_q16; 1 exc_q14 (320); 321 s_lpc_q14_buf (16); 337 lag_prev, fs_khz,
+ *                nb_subfr, frame_length, subfr_length, ltp_mem_length, lpc_order,
+ *                first_frame_after_reset; 345 loss_cnt; 346 prev_signal_type;
+ *                s_plc: 347 pitch_l_q8, last_frame_lost, rand_seed, conc_energy,
+ *                conc_energy_shift, prev_gain_q16 (2, the later at 353), fs_khz, nb_subfr,
+ *                subfr_length;
+ *                s_cng: 357 cng_exc_buf_q14 (320), cng_synth_state (16), cng_smth_gain_q16,
+ *                rand_seed, fs_khz
+ *     halves     0 out_buf (480); 480 prev_nlsf_q15 (16);
+ *                s_plc: 496 ltp_coef_q14 (5), prev_lpc_q12 (16), rand_scale_q14,
+ *                prev_ltp_scale_q14;
+ *                s_cng: 519 cng_smth_nlsf_q15 (16)
+ * control        0 to 3 the subframes' lags, in samples; 4 to 7 their gains, Q16; 8 the LTP scale,
+ *                Q14. Of four places the first n count.
+ * taps           five for each subframe, Q14
+ * rows           two rows of coefficients, Q12, the second from place 16 on at every order.
+ *                Subframes 0 and 1 are played with the first, 2 and 3 with the second; concealment
+ *                keeps the second of every frame. So both are to be filled, also where n is 2.
+ * lines          the frame's line frequencies, Q15; the first 10 or 16 count
+ * signal         0 inactive, 1 unvoiced, 2 voiced
+ * offset         quantisation offset type
+ * interpolation  of the lines, Q2; 4 is none
+ * seed           of the excitation's generator, any number */
 #ifndef POST_H
 #define POST_H
 
@@ -14,46 +54,55 @@
 extern "C" {
 #endif
 
+/* The least elements of these slices. */
 enum {
     POST_WORDS = 696,
     POST_HALVES = 535,
     POST_CONTROL = 9,
     POST_TAPS = 20,
     POST_ROWS = 32,
-    POST_LINES = 16,
-    POST_LONGEST_FRAME = 320
+    POST_LINES = 16
 };
+
+/* The samples of the longest frame; pulses and output need no more, and 5rn are enough. */
+enum { POST_LONGEST_FRAME = 320 };
 
 enum post_refusal {
     POST_SHORT = -1,
     POST_PLAYED = 0,
-    POST_RATE = 1,
-    POST_SIZE = 2,
-    POST_HISTORY = 3,
-    POST_RUN_FULL = 4,
-    POST_SIGNAL = 5,
-    POST_GAIN = 6,
-    POST_LAG = 7,
-    POST_TAPS_REFUSED = 8,
-    POST_LINE = 9,
-    POST_PULSES = 10,
-    POST_SPEAKER = 11,
-    POST_LENGTH = 12,
-    POST_ORDER = 13
+    POST_RATE = 1,         /* the rate is not 8, 12 or 16 */
+    POST_SIZE = 2,         /* not 2 or 4 subframes, or a length or order in the state is not theirs */
+    POST_HISTORY = 3,      /* a field of the state is outside its range; never after set-up and
+                              whole frames alone (README.md, "What is proved") */
+    POST_RUN_FULL = 4,     /* the frame is lost, and loss_cnt is 2,147,483,647 */
+    POST_SIGNAL = 5,       /* signal not 0 to 2, offset not 0 or 1, or interpolation not 0 to 4 */
+    POST_GAIN = 6,         /* a gain is not in 81,920 to 1,686,110,208 */
+    POST_LAG = 7,          /* signal is 2, and a lag is not in 2r to 18r */
+    POST_TAPS_REFUSED = 8, /* the LTP scale is not in 0 to 16,384; or signal is 2, and a subframe's
+                              five taps add up to more than 32,767 or less than -32,768 */
+    POST_LINE = 9,         /* a line frequency is negative */
+    POST_PULSES = 10,      /* fewer than 5rn pulses */
+    POST_SPEAKER = 11,     /* fewer than 5rn samples of output */
+    POST_LENGTH = 12,      /* gluing or noise alone: length 0, above 320 or above the buffer */
+    POST_ORDER = 13        /* stability: order not 1 to 16; filter: not 10 or 16; or a slice of
+                              coefficients or lines is shorter than it */
 };
 
-/* A state for 8, 12 or 16 kHz and 2 or 4 subframes. */
+/* A state for 8, 12 or 16 kHz and 2 or 4 subframes. Refused by 1, 2. */
 int32_t post_set_up(int32_t rate, int32_t subframes,
                     int32_t *words, size_t words_len, int16_t *halves, size_t halves_len);
 
-/* A received frame: 5 * rate * subframes samples into output. */
+/* A received frame: 5rn samples into output. It may change lags and taps: after the loss of a
+ * voiced frame, those of the first two subframes of a frame that is not. Refused by 1 to 3 and 5
+ * to 11. */
 int32_t post_received(int32_t *words, size_t words_len, int16_t *halves, size_t halves_len,
                       int8_t signal, int8_t offset, int8_t interpolation, int8_t seed,
                       int32_t *control, size_t control_len, int16_t *taps, size_t taps_len,
                       const int16_t *rows, size_t rows_len, const int16_t *lines, size_t lines_len,
                       const int16_t *pulses, size_t pulses_len, int16_t *output, size_t output_len);
 
-/* A lost frame: as many samples, concealed. */
+/* A lost frame: as many samples, concealed. Control and taps may hold anything; all four lags
+ * become the last concealed one. Refused by 1 to 4 and 11. */
 int32_t post_lost(int32_t *words, size_t words_len, int16_t *halves, size_t halves_len,
                   int32_t *control, size_t control_len, int16_t *taps, size_t taps_len,
                   int16_t *output, size_t output_len);
@@ -61,7 +110,10 @@ int32_t post_lost(int32_t *words, size_t words_len, int16_t *halves, size_t halv
 /* The count of samples of output that a frame fills, 0 for no shape or a short output. */
 int32_t post_played(int32_t rate, int32_t subframes, int16_t *output, size_t output_len);
 
-/* The stages alone. */
+/* The stages alone, on the state of a frame: the synthesis of a received one (refused by 1 to 3, 5
+ * to 8, 10, 11); what concealment keeps of it, which changes neither control nor taps (1 to 3, 5 to
+ * 8); concealment of a lost one (1 to 4, 11); gluing (1 to 3, 12) and comfort noise (1 to 3, 12, and
+ * 6 where loss_cnt is 0) of a buffer's first length samples. */
 int32_t post_core(int32_t *words, size_t words_len, int16_t *halves, size_t halves_len,
                   int8_t signal, int8_t offset, int8_t interpolation, int8_t seed,
                   int32_t *control, size_t control_len, int16_t *taps, size_t taps_len,
@@ -79,8 +131,14 @@ int32_t post_glue(int32_t *words, size_t words_len, int16_t *halves, size_t halv
 int32_t post_noise(int32_t *words, size_t words_len, int16_t *halves, size_t halves_len,
                    const int32_t *control, size_t control_len, const int16_t *taps, size_t taps_len,
                    int16_t *buffer, size_t buffer_len, size_t length);
+
+/* The inverse gain, Q30, of a filter's first order coefficients, Q12, into result; 0 if it is not
+ * stable. Refused by 13. */
 int32_t post_stability(const int16_t *coefficients, size_t coefficients_len, size_t order,
                        int32_t *result, size_t result_len);
+
+/* The first order coefficients, Q12, of the filter from as many line frequencies, Q15. Refused by 13,
+ * then by 9. */
 int32_t post_filter(int16_t *coefficients, size_t coefficients_len,
                     const int16_t *lines, size_t lines_len, size_t order);
 

@@ -5,8 +5,8 @@
 
 mod stream;
 
-use post::{Description, Post};
-use std::env;
+use post::{Description, Post, Refusal};
+use std::{env, process::ExitCode};
 use stream::Stream;
 
 const LOSSES: usize = 1_200;
@@ -22,43 +22,59 @@ struct Start {
 }
 
 /// Plays a stream, and loses frames after the loudest one that was received.
-fn start(file: &str) -> Start {
-    let stream = Stream::read(file).unwrap();
-    let mut post = Post::set_up(stream.rate, stream.subframes).expect("a shape");
+fn start(file: &str) -> Result<Start, String> {
+    let refused = |why: Refusal| format!("{file}: a frame is refused: {why}");
+    let stream = Stream::read(file)?;
+    let mut post = Post::set_up(stream.rate, stream.subframes).map_err(refused)?;
     let mut best = (0, post.clone());
     let mut output = vec![];
     for record in stream.records {
         output.resize(record.samples.len(), 0);
         if let Some((params, mut description, pulses)) = record.frame {
-            post.received(params, &mut description, &pulses, &mut output).expect("a frame");
+            post.received(params, &mut description, &pulses, &mut output).map_err(refused)?;
             let level = peak(&output);
             if level > best.0 {
                 best = (level, post.clone());
             }
         } else {
-            post.lost(&mut Description::default(), &mut output).expect("a loss");
+            post.lost(&mut Description::default(), &mut output).map_err(refused)?;
         }
     }
     let mut post = best.1;
     let levels = (0..LOSSES)
         .map(|_| {
             let mut description = Description::default();
-            post.clone().plc_lost(&mut description, &mut output).expect("a loss");
+            post.clone().plc_lost(&mut description, &mut output)?;
             let level = peak(&output);
-            post.lost(&mut description, &mut output).expect("a loss");
-            level
+            post.lost(&mut description, &mut output)?;
+            Ok(level)
         })
-        .collect();
+        .collect::<Result<Vec<u16>, Refusal>>()
+        .map_err(refused)?;
     let bound = post.parts().0[LATER_GAIN] / 4_194_304 + 64;
-    Start { name: format!("{} kHz, {} subframes", stream.rate, stream.subframes), levels, bound }
+    Ok(Start { name: format!("{} kHz, {} subframes", stream.rate, stream.subframes), levels, bound })
 }
 
 fn peak(samples: &[i16]) -> u16 {
     samples.iter().map(|sample| sample.unsigned_abs()).max().unwrap_or(0)
 }
 
-fn main() {
-    let starts: Vec<Start> = env::args().skip(1).map(|file| start(&file)).collect();
+fn main() -> ExitCode {
+    if env::args().len() < 2 {
+        eprintln!("fade FILE.vec .. > fade.svg");
+        return ExitCode::from(2);
+    }
+    match env::args().skip(1).map(|file| start(&file)).collect::<Result<Vec<Start>, String>>() {
+        Ok(starts) => draw(&starts),
+        Err(why) => {
+            eprintln!("{why}");
+            return ExitCode::FAILURE;
+        }
+    }
+    ExitCode::SUCCESS
+}
+
+fn draw(starts: &[Start]) {
     let (width, height, left, top) = (900.0, 420.0, 60.0, 30.0);
     let across = |loss: usize| left + width * ((loss + 1) as f64).ln() / (LOSSES as f64 + 1.0).ln();
     let up = |level: f64| top + height * (1.0 - (level + 1.0).log2() / 16.0);
@@ -66,7 +82,12 @@ fn main() {
     println!(r#"<rect width="1000" height="500" fill="white"/>"#);
     for level in [0, 1, 16, 64, 256, 1_024, 4_096, 32_767] {
         let y = up(level as f64);
-        println!(r##"<line x1="{left}" x2="{}" y1="{y:.1}" y2="{y:.1}" stroke="#ddd"/><text x="{}" y="{:.1}" text-anchor="end">{level}</text>"##, left + width, left - 6.0, y + 4.0);
+        println!(
+            r##"<line x1="{left}" x2="{}" y1="{y:.1}" y2="{y:.1}" stroke="#ddd"/><text x="{}" y="{:.1}" text-anchor="end">{level}</text>"##,
+            left + width,
+            left - 6.0,
+            y + 4.0
+        );
     }
     for loss in [1, 2, 5, 10, 20, 50, 100, 200, 500, 1_024] {
         println!(r#"<text x="{:.1}" y="475" text-anchor="middle">{loss}</text>"#, across(loss - 1));
@@ -75,14 +96,21 @@ fn main() {
     let colours = ["#1b6ca8", "#c0392b", "#27823b", "#8e44ad", "#b9770e", "#34495e"];
     for (index, start) in starts.iter().enumerate() {
         let colour = colours[index % colours.len()];
-        let points: Vec<String> = start.levels.iter().enumerate().map(|(loss, level)| format!("{:.1},{:.1}", across(loss), up(*level as f64))).collect();
+        let points: Vec<String> =
+            start.levels.iter().enumerate().map(|(loss, level)| format!("{:.1},{:.1}", across(loss), up(*level as f64))).collect();
         println!(r#"<polyline fill="none" stroke="{colour}" points="{}"/>"#, points.join(" "));
         let y = up(start.bound as f64);
         println!(
             r#"<line x1="{:.1}" x2="{:.1}" y1="{y:.1}" y2="{y:.1}" stroke="{colour}" stroke-width="3"/><text x="760" y="{}" fill="{colour}">{}: bound {}</text>"#,
-            across(COUNTED), across(LOSSES - 1), 50 + 18 * index, start.name, start.bound
+            across(COUNTED),
+            across(LOSSES - 1),
+            50 + 18 * index,
+            start.name,
+            start.bound
         );
     }
-    println!(r#"<text x="65" y="20">loudest concealed sample of a frame, before comfort noise; the thick lines are the proved bound</text>"#);
+    println!(
+        r#"<text x="65" y="20">loudest concealed sample of a frame, before comfort noise; the thick lines are the proved bound</text>"#
+    );
     println!("</svg>");
 }

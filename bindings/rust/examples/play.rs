@@ -9,7 +9,7 @@ use stream::Stream;
 /// Plays a stream, and says what was played.
 fn play(file: &str) -> Result<String, String> {
     let stream = Stream::read(file)?;
-    let mut post = Post::set_up(stream.rate, stream.subframes).map_err(|why| why.to_string())?;
+    let mut post = Post::set_up(stream.rate, stream.subframes).map_err(|why| format!("{file}: set-up is refused: {why}"))?;
     let (mut received, mut lost) = (0, 0);
     for (index, record) in stream.records.into_iter().enumerate() {
         let mut output = vec![0; record.samples.len()];
@@ -23,9 +23,9 @@ fn play(file: &str) -> Result<String, String> {
                 post.lost(&mut Description::default(), &mut output)
             }
         };
-        played.map_err(|why| format!("frame {index} is refused: {why}"))?;
+        played.map_err(|why| format!("{file}: frame {index} is refused: {why}"))?;
         if let Some(at) = (0..output.len()).find(|at| output[*at] != record.samples[*at]) {
-            return Err(format!("frame {index}, sample {at}: {} is played, {} recorded", output[at], record.samples[at]));
+            return Err(format!("{file}: frame {index}, sample {at}: {} is played, {} recorded", output[at], record.samples[at]));
         }
     }
     Ok(format!("{received} received and {lost} lost frames played as recorded"))
@@ -41,7 +41,7 @@ fn main() -> ExitCode {
         match play(&file) {
             Ok(text) => println!("{file}: {text}"),
             Err(why) => {
-                println!("{file}: {why}");
+                eprintln!("{why}");
                 code = ExitCode::FAILURE;
             }
         }

@@ -1,4 +1,4 @@
-//! The linked functions, on slices.
+//! The linked functions, on slices. Slices that Rust lends to one call never overlap where one of them is written.
 
 use super::Params;
 
@@ -49,10 +49,9 @@ unsafe extern "C" {
     fn post_filter(coefficients: *mut i16, coefficients_len: usize, lines: *const i16, lines_len: usize, order: usize) -> i32;
 }
 
-// In each function a slice is lent for the call alone, with its own length.
-
 /// `post_set_up`.
 pub fn set_up(rate: i32, subframes: i32, words: &mut [i32], halves: &mut [i16]) -> i32 {
+    // SAFETY: each pointer is lent with its own slice's length, for the call alone.
     unsafe { post_set_up(rate, subframes, words.as_mut_ptr(), words.len(), halves.as_mut_ptr(), halves.len()) }
 }
 
@@ -61,6 +60,7 @@ pub fn set_up(rate: i32, subframes: i32, words: &mut [i32], halves: &mut [i16]) 
 pub fn received(
     words: &mut [i32], halves: &mut [i16], q: Params, control: &mut [i32], taps: &mut [i16], rows: &[i16], lines: &[i16], pulses: &[i16], output: &mut [i16],
 ) -> i32 {
+    // SAFETY: each pointer is lent with its own slice's length, for the call alone.
     unsafe {
         post_received(
             words.as_mut_ptr(), words.len(), halves.as_mut_ptr(), halves.len(), q.signal_type, q.quant_offset_type, q.nlsf_interp_coef_q2, q.seed,
@@ -72,6 +72,7 @@ pub fn received(
 
 /// `post_lost`.
 pub fn lost(words: &mut [i32], halves: &mut [i16], control: &mut [i32], taps: &mut [i16], output: &mut [i16]) -> i32 {
+    // SAFETY: each pointer is lent with its own slice's length, for the call alone.
     unsafe {
         post_lost(
             words.as_mut_ptr(), words.len(), halves.as_mut_ptr(), halves.len(),
@@ -85,6 +86,7 @@ pub fn lost(words: &mut [i32], halves: &mut [i16], control: &mut [i32], taps: &m
 pub fn core(
     words: &mut [i32], halves: &mut [i16], q: Params, control: &mut [i32], taps: &mut [i16], rows: &[i16], pulses: &[i16], output: &mut [i16],
 ) -> i32 {
+    // SAFETY: each pointer is lent with its own slice's length, for the call alone.
     unsafe {
         post_core(
             words.as_mut_ptr(), words.len(), halves.as_mut_ptr(), halves.len(), q.signal_type, q.quant_offset_type, q.nlsf_interp_coef_q2, q.seed,
@@ -96,6 +98,7 @@ pub fn core(
 
 /// `post_plc_received`.
 pub fn plc_received(words: &mut [i32], halves: &mut [i16], q: Params, control: &mut [i32], taps: &mut [i16], rows: &[i16]) -> i32 {
+    // SAFETY: each pointer is lent with its own slice's length, for the call alone.
     unsafe {
         post_plc_received(
             words.as_mut_ptr(), words.len(), halves.as_mut_ptr(), halves.len(), q.signal_type, q.quant_offset_type, q.nlsf_interp_coef_q2,
@@ -106,6 +109,7 @@ pub fn plc_received(words: &mut [i32], halves: &mut [i16], q: Params, control: &
 
 /// `post_plc_lost`.
 pub fn plc_lost(words: &mut [i32], halves: &mut [i16], control: &mut [i32], taps: &mut [i16], output: &mut [i16]) -> i32 {
+    // SAFETY: each pointer is lent with its own slice's length, for the call alone.
     unsafe {
         post_plc_lost(
             words.as_mut_ptr(), words.len(), halves.as_mut_ptr(), halves.len(),
@@ -116,11 +120,13 @@ pub fn plc_lost(words: &mut [i32], halves: &mut [i16], control: &mut [i32], taps
 
 /// `post_glue`.
 pub fn glue(words: &mut [i32], halves: &mut [i16], buffer: &mut [i16], length: usize) -> i32 {
+    // SAFETY: each pointer is lent with its own slice's length, for the call alone.
     unsafe { post_glue(words.as_mut_ptr(), words.len(), halves.as_mut_ptr(), halves.len(), buffer.as_mut_ptr(), buffer.len(), length) }
 }
 
 /// `post_noise`.
 pub fn noise(words: &mut [i32], halves: &mut [i16], control: &[i32], taps: &[i16], buffer: &mut [i16], length: usize) -> i32 {
+    // SAFETY: each pointer is lent with its own slice's length, for the call alone.
     unsafe {
         post_noise(
             words.as_mut_ptr(), words.len(), halves.as_mut_ptr(), halves.len(),
@@ -131,15 +137,18 @@ pub fn noise(words: &mut [i32], halves: &mut [i16], control: &[i32], taps: &[i16
 
 /// `post_played`.
 pub fn played(rate: i32, subframes: i32, output: &mut [i16]) -> i32 {
+    // SAFETY: each pointer is lent with its own slice's length, for the call alone.
     unsafe { post_played(rate, subframes, output.as_mut_ptr(), output.len()) }
 }
 
 /// `post_stability`.
 pub fn stability(coefficients: &[i16], order: usize, result: &mut [i32]) -> i32 {
+    // SAFETY: each pointer is lent with its own slice's length, for the call alone.
     unsafe { post_stability(coefficients.as_ptr(), coefficients.len(), order, result.as_mut_ptr(), result.len()) }
 }
 
 /// `post_filter`.
 pub fn filter(coefficients: &mut [i16], lines: &[i16], order: usize) -> i32 {
+    // SAFETY: each pointer is lent with its own slice's length, for the call alone.
     unsafe { post_filter(coefficients.as_mut_ptr(), coefficients.len(), lines.as_ptr(), lines.len(), order) }
 }

@@ -1,7 +1,8 @@
 //! The yard post's SILK back end: parameters of a frame in, samples out.
 //!
 //! [`Post`] owns a decoder's state. A frame is played by [`Post::received`] or [`Post::lost`]; one that the
-//! back end turns down leaves the state, the description and the output as they were.
+//! back end turns down leaves the state, the description and the output as they were. A call takes up to 25,880
+//! bytes of stack. The library, which `rt staticlib post` builds or POST_LIBRARY names, is for x86-64 Linux alone.
 //!
 //! ```
 //! use post::{Description, Params, Post};
@@ -15,11 +16,15 @@
 //! # Ok::<(), post::Refusal>(())
 //! ```
 
+#![no_std]
 #![warn(missing_docs)]
+#![deny(unsafe_code)]
 
+#[allow(unsafe_code)]
+#[rustfmt::skip]
 pub mod ffi;
 
-use std::fmt;
+use core::fmt;
 
 /// Why a call was turned down, r being the rate in kHz and n the count of subframes.
 #[derive(Clone, Copy, PartialEq, Eq, Debug)]
@@ -102,7 +107,7 @@ impl fmt::Display for Refusal {
     }
 }
 
-impl std::error::Error for Refusal {}
+impl core::error::Error for Refusal {}
 
 /// An answer of the library. Its slices always have their sizes here, so -1 cannot come.
 fn answered(number: i32) -> Result<(), Refusal> {
@@ -136,7 +141,8 @@ pub struct Description {
     pub ltp_scale_q14: i32,
     /// Five long-term taps for each subframe.
     pub ltp_coef_q14: [i16; 20],
-    /// The two coefficient rows of a received frame.
+    /// The two coefficient rows of a received frame. Subframes 0 and 1 are played with the first, 2 and 3 with the second; concealment
+    /// keeps the second of every frame, so that both are to be filled with 2 subframes too.
     pub pred_coef_q12: [[i16; 16]; 2],
     /// The line frequencies of a received frame.
     pub nlsf_q15: [i16; 16],
@@ -195,7 +201,17 @@ impl Post {
         let mut control = description.control();
         let rows = description.rows();
         let lines = description.nlsf_q15;
-        answered(ffi::received(&mut self.words, &mut self.halves, params, &mut control, &mut description.ltp_coef_q14, &rows, &lines, pulses, output))?;
+        answered(ffi::received(
+            &mut self.words,
+            &mut self.halves,
+            params,
+            &mut control,
+            &mut description.ltp_coef_q14,
+            &rows,
+            &lines,
+            pulses,
+            output,
+        ))?;
         description.take(&control);
         Ok(())
     }

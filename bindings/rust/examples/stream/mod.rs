@@ -19,7 +19,7 @@ struct Bytes<'a>(&'a [u8]);
 
 impl Bytes<'_> {
     fn take<const N: usize>(&mut self) -> Result<[u8; N], String> {
-        let (first, rest) = self.0.split_first_chunk().ok_or("the stream is cut")?;
+        let (first, rest) = self.0.split_first_chunk().ok_or("the file is cut")?;
         self.0 = rest;
         Ok(*first)
     }
@@ -44,7 +44,11 @@ impl Bytes<'_> {
 
     fn record(&mut self, length: usize) -> Result<Record, String> {
         let mut frame = None;
-        if self.take()? == [1] {
+        let [kind] = self.take()?;
+        if kind > 1 {
+            return Err(format!("a record has the kind {kind}"));
+        }
+        if kind == 1 {
             let [signal_type, quant_offset_type, nlsf_interp_coef_q2, seed] = self.take()?.map(|byte| byte as i8);
             let mut description = Description::default();
             self.longs(&mut description.pitch_l)?;
@@ -68,24 +72,33 @@ impl Bytes<'_> {
 impl Stream {
     /// The samples are those of FILE.rust.pcm where it lies beside FILE.vec.
     pub fn read(file: &str) -> Result<Stream, String> {
-        let read = |file: &Path| fs::read(file).map_err(|why| format!("{}: {why}", file.display()));
         let file = Path::new(file);
-        let bytes = read(file)?;
-        let mut bytes = Bytes(&bytes);
-        if bytes.take()? != *b"SILKVEC1" {
-            return Err(format!("{}: no stream", file.display()));
-        }
-        let [rate, subframes, _, _] = bytes.take()?.map(i32::from);
-        let (count, length) = (bytes.long()?, (5 * rate * subframes) as usize);
-        let mut records = (0..count).map(|_| bytes.record(length)).collect::<Result<Vec<Record>, String>>()?;
+        let mut stream = all_of(file, |bytes| {
+            if bytes.take()? != *b"SILKVEC1" {
+                return Err("no stream".into());
+            }
+            let [rate, subframes, zeros @ ..] = bytes.take::<4>()?.map(i32::from);
+            if ![8, 12, 16].contains(&rate) || ![2, 4].contains(&subframes) || zeros != [0, 0] {
+                return Err(format!("no stream of the decoder: {rate} kHz, {subframes} subframes"));
+            }
+            let count = u32::from_le_bytes(bytes.take()?);
+            let length = (5 * rate * subframes) as usize;
+            let records = (0..count).map(|_| bytes.record(length)).collect::<Result<Vec<Record>, String>>()?;
+            Ok(Stream { rate, subframes, records })
+        })?;
         let rust = file.with_extension("rust.pcm");
         if rust.exists() {
-            let bytes = read(&rust)?;
-            let mut bytes = Bytes(&bytes);
-            for record in &mut records {
-                bytes.shorts(&mut record.samples)?;
-            }
+            all_of(&rust, |bytes| stream.records.iter_mut().try_for_each(|record| bytes.shorts(&mut record.samples)))?;
         }
-        Ok(Stream { rate, subframes, records })
+        Ok(stream)
     }
+}
+
+/// What a file's bytes give, if they give it with none left over.
+fn all_of<T>(file: &Path, read: impl FnOnce(&mut Bytes) -> Result<T, String>) -> Result<T, String> {
+    let named = |why: String| format!("{}: {why}", file.display());
+    let bytes = fs::read(file).map_err(|why| named(why.to_string()))?;
+    let mut bytes = Bytes(&bytes);
+    let found = read(&mut bytes).map_err(named)?;
+    if bytes.0.is_empty() { Ok(found) } else { Err(named("bytes follow the last record".into())) }
 }
