@@ -1,38 +1,66 @@
--- Demand 3: what is claimed of every place of a list.
-use Prim.Native.Nat.{ℕ, _+_, _/_, _≤_}
+-- Demand 3: what is claimed of every place of a list, and of which lists.
+use Prim.Native.Nat.{ℕ, suc, _≤_}
 use mathlib.Core.Path.{_≡_}
+use mathlib.Core.Bool.{true}
 use mathlib.Core.List.{List, [], _∷_}
 use lib.IntN.{ℤ, pos, natAbs}
-use lib.ListN.{getD}
+use lib.ListN.{getD, length}
 use mir.Syntax.{w16}
 use mir.Val.{SFits}
 use Rattle.word.specs.Size.{Bounded}
-use Rattle.refusal.specs.declared.Refusal.the-variants.{Nothing, History}
+use Rattle.refusal.specs.Refusals.{refusalNumber}
+use Rattle.refusal.specs.declared.Refusal.the-variants.{Nothing}
+use Rattle.shape.specs.Shape.{Shape, shape, isRate, isCount, rateOf, frameLength}
+use Rattle.decoder.specs.Accepted.{Accepted}
+use Rattle.decoder.specs.SetUp.{setUpRefusal, setUp}
 use Rattle.decoder.specs.State.{shapeOf}
-use Rattle.decoder.specs.Typed.{TypedControl, TypedFrame, TypedRows, TypedLines}
-use Rattle.decoder.specs.declared.Frame.the-variants.{Lost}
-use Rattle.plc.specs.Conceal.{plcConceal}
-use Rattle.lists.specs.Lists.{Call, Place, refusalOf, stateAfter}
+use Rattle.decoder.specs.Typed.{Typed, TypedControl, TypedRows, TypedLines}
+use Rattle.decoder.specs.declared.SilkDecoderState.{SilkDecoderState}
+use Rattle.decoder.specs.declared.Frame.{Frame}
+use Rattle.decoder.specs.declared.Frame.the-variants.{Received, Lost}
+use Rattle.plc.specs.Conceal.{laterGain, plcConceal}
+use Rattle.quiet.specs.Bound.{quietBound}
+use Rattle.lists.specs.Lists.{Call, Place, refusalOf, stateAfter, places}
 
 -- a claim of every element
 pub data Every {A : Type 0} (P : A → Type 0) : List A → Type 0 where
   none : Every P []
   then : {x : A} {xs : List A} → P x → Every P xs → Every P (x ∷ xs)
 
--- what a call brings has the ranges of its types
-pub record TypedCall (x : Call) : Type 0 where
-  pub frame : TypedFrame (x .frame)
-  pub control : TypedControl (x .control)
+-- a claim of every element and its place, counted from k
+unfoldable pub Numbered : {A : Type 0} → (ℕ → A → Type 0) → ℕ → List A → Type 0
+Numbered P k [] = Unit {0}
+Numbered P k (x ∷ xs) = P k x × Numbered P (suc k) xs
+
+-- the rows, lines and pulses of a received frame have the ranges of their types
+pub record TypedLent (x : Call) : Type 0 where
   pub rows : TypedRows (x .rows)
   pub lines : TypedLines (x .lines)
   pub pulses : (i : ℕ) → SFits w16 (getD (x .pulses) i (pos 0))
 
+-- a lost frame brings none
+abbrev pub TypedBeside : Frame → Call → Type 0
+TypedBeside (Received q) x = TypedLent x
+TypedBeside Lost x = Unit {0}
+
+-- what a call brings has the ranges of its types
+pub record TypedCall (x : Call) : Type 0 where
+  pub control : TypedControl (x .control)
+  pub beside : TypedBeside (x .frame) x
+
 abbrev pub TypedCalls : List Call → Type 0
 TypedCalls xs = Every TypedCall xs
 
+-- an answer is none of 1, 2 and 3: no row that judges the state alone applies
+abbrev pub NotForState : ℤ → Type 0
+NotForState answer = (answer ≡ pos 1 → ⊥) × (answer ≡ pos 2 → ⊥) × (answer ≡ pos 3 → ⊥)
+
 -- the call is not refused for the post's own history
 abbrev pub HistoryKept : Place → Type 0
-HistoryKept t = refusalOf (t .state) (t .call) ≡ History → ⊥
+HistoryKept t = NotForState (pos (refusalNumber (refusalOf (t .state) (t .call))))
+
+abbrev pub Played : Place → Type 0
+Played t = refusalNumber (refusalOf (t .state) (t .call)) ≡ 0
 
 -- the concealed samples of a lost frame, by demand 2's definition and before noise
 abbrev pub concealedAt : Place → List ℤ
@@ -40,12 +68,35 @@ concealedAt t = plcConceal (shapeOf (t .state)) (t .state) (t .call .control) .s
 
 -- G: the later of concealment's two gains in the new state
 abbrev pub gainAfter : Place → ℕ
-gainAfter t = natAbs (getD (stateAfter (t .state) (t .call) .«s_plc» .«prev_gain_q16») 1 (pos 0))
+gainAfter t = natAbs (laterGain (stateAfter (t .state) (t .call) .«s_plc»))
 
 -- a lost frame that is played with 1,024 or more counted losses before it lies within G/4,194,304, rounded down, plus 64 of zero
 abbrev pub NotLoud : Place → Type 0
-NotLoud t =
-    t .call .frame ≡ Lost
-    → refusalOf (t .state) (t .call) ≡ Nothing
-    → 1024 ≤ t .losses
-    → Bounded (gainAfter t / 4194304 + 64) (concealedAt t)
+NotLoud t = t .call .frame ≡ Lost → Played t → 1024 ≤ t .losses → Bounded (quietBound (gainAfter t)) (concealedAt t)
+
+-- first half: in every list from a set-up no call is refused for the post's own history
+abbrev pub FirstHalf : Type 0
+FirstHalf = (khz nb : ℤ) (xs : List Call) → setUpRefusal khz nb ≡ Nothing → TypedCalls xs → Every HistoryKept (places (setUp khz nb .state) xs)
+
+-- second half: in every list from an accepted state drops can't keep the post loud
+abbrev pub SecondHalf : Type 0
+SecondHalf = (s : SilkDecoderState) (xs : List Call) → Accepted (rateOf (s .«fs_khz»)) s → Typed s → TypedCalls xs → Every NotLoud (places s xs)
+
+-- in every list from a set-up the losses that count are those that the state counts
+abbrev pub LossesHeld : Type 0
+LossesHeld =
+    (khz nb : ℤ) (xs : List Call) → setUpRefusal khz nb ≡ Nothing → TypedCalls xs
+    → Every (λ t. t .state .«loss_cnt» ≡ pos (t .losses)) (places (setUp khz nb .state) xs)
+
+-- a lost frame with room for the samples of a shape
+pub record LostWithRoom (p : Shape) (x : Call) : Type 0 where
+  pub lost : x .frame ≡ Lost
+  pub room : frameLength p ≤ length (x .output)
+
+-- the second half is not empty: at each of the six shapes, of up to 2,147,483,647 lost frames with room from a set-up each is played, and
+-- before the one numbered k, from 0, there count k losses
+abbrev pub LossesPlayed : Type 0
+LossesPlayed =
+    (khz nb : ℤ) (xs : List Call) → isRate khz ≡ true → isCount nb ≡ true → length xs ≤ 2147483647 → TypedCalls xs
+    → Every (LostWithRoom (shape khz nb)) xs
+    → Numbered (λ k t. Played t × (t .losses ≡ k)) 0 (places (setUp khz nb .state) xs)

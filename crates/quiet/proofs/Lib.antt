@@ -7,3 +7,4 @@ pub mod Frame
 pub mod Frames
 pub mod Loudness
 pub mod Start
+pub mod Rest

@@ -1,2 +1,3 @@
 -- What the laws cite.
 pub mod Bound
+pub mod Taps
