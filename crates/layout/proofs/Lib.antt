@@ -1,3 +1,4 @@
 -- The laws that the proofs share.
 pub mod Pieces
-pub mod Round
+pub mod Stored
+pub mod Slices
