@@ -108,7 +108,7 @@ int32_t post_lost(int32_t *words, size_t words_len, int16_t *halves, size_t halv
                   int16_t *output, size_t output_len);
 
 /* The count of samples of output that a frame fills, 0 for no shape or a short output. */
-int32_t post_played(int32_t rate, int32_t subframes, int16_t *output, size_t output_len);
+int32_t post_played(int32_t rate, int32_t subframes, const int16_t *output, size_t output_len);
 
 /* The stages alone, on the state of a frame: the synthesis of a received one (refused by 1 to 3, 5
  * to 8, 10, 11); what concealment keeps of it, which changes neither control nor taps (1 to 3, 5 to

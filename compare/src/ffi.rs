@@ -21,7 +21,7 @@ unsafe extern "C" {
         buffer: *mut i16, buffer_len: usize, length: usize) -> i32;
     fn post_noise(words: *mut i32, words_len: usize, halves: *mut i16, halves_len: usize,
         control: *const i32, control_len: usize, taps: *const i16, taps_len: usize, buffer: *mut i16, buffer_len: usize, length: usize) -> i32;
-    fn post_played(rate: i32, subframes: i32, output: *mut i16, output_len: usize) -> i32;
+    fn post_played(rate: i32, subframes: i32, output: *const i16, output_len: usize) -> i32;
     fn post_stability(coefficients: *const i16, coefficients_len: usize, order: usize, result: *mut i32, result_len: usize) -> i32;
     fn post_filter(coefficients: *mut i16, coefficients_len: usize, lines: *const i16, lines_len: usize, order: usize) -> i32;
 }

@@ -70,7 +70,7 @@ unsafe extern "C" fn post_noise(w: Longs, wn: usize, h: Shorts, hn: usize, c: Lo
 #[cfg(not(has_played))]
 #[unsafe(no_mangle)]
 unsafe extern "C" fn post_played(rate: i32, subframes: i32, o: Shorts, on: usize) -> i32 {
-    unsafe { reference::post_played(rate, subframes, part_mut(o, on)) }
+    unsafe { reference::post_played(rate, subframes, part(o, on)) }
 }
 
 #[cfg(not(has_stability))]

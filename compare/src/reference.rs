@@ -393,7 +393,7 @@ pub fn post_noise(words: &mut [i32], halves: &mut [i16], control: &[i32], taps: 
     })
 }
 
-pub fn post_played(rate: i32, subframes: i32, output: &mut [i16]) -> i32 {
+pub fn post_played(rate: i32, subframes: i32, output: &[i16]) -> i32 {
     let played = |length: i32| {
         if output.len() >= length as usize { length } else { 0 }
     };

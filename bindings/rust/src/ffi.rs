@@ -44,7 +44,7 @@ unsafe extern "C" {
         words: *mut i32, words_len: usize, halves: *mut i16, halves_len: usize,
         control: *const i32, control_len: usize, taps: *const i16, taps_len: usize, buffer: *mut i16, buffer_len: usize, length: usize,
     ) -> i32;
-    fn post_played(rate: i32, subframes: i32, output: *mut i16, output_len: usize) -> i32;
+    fn post_played(rate: i32, subframes: i32, output: *const i16, output_len: usize) -> i32;
     fn post_stability(coefficients: *const i16, coefficients_len: usize, order: usize, result: *mut i32, result_len: usize) -> i32;
     fn post_filter(coefficients: *mut i16, coefficients_len: usize, lines: *const i16, lines_len: usize, order: usize) -> i32;
 }
@@ -136,9 +136,9 @@ pub fn noise(words: &mut [i32], halves: &mut [i16], control: &[i32], taps: &[i16
 }
 
 /// `post_played`.
-pub fn played(rate: i32, subframes: i32, output: &mut [i16]) -> i32 {
+pub fn played(rate: i32, subframes: i32, output: &[i16]) -> i32 {
     // SAFETY: each pointer is lent with its own slice's length, for the call alone.
-    unsafe { post_played(rate, subframes, output.as_mut_ptr(), output.len()) }
+    unsafe { post_played(rate, subframes, output.as_ptr(), output.len()) }
 }
 
 /// `post_stability`.

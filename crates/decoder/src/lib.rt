@@ -442,12 +442,12 @@ pub fn set_up(fs_khz: i32, nb_subfr: i32) -> SetUp
 }
 
 // The played samples of the output themselves; empty for a shape that is none or a short output.
-pub fn played(fs_khz: i32, nb_subfr: i32, output: &mut [i16]) -> &mut [i16]
-    ensures { λ r. ⌜ now r ≡ take (playedLength (shape «fs_khz» «nb_subfr») (length (now (output .entry)))) (now (output .entry)) ⌝ }
+pub fn played(fs_khz: i32, nb_subfr: i32, output: &[i16]) -> &[i16]
+    ensures { λ r. ⌜ (now r ≡ take (playedLength (shape «fs_khz» «nb_subfr») (length (now (output .entry)))) (now (output .entry))) × (r .ptr ≡ output .entry .ptr) ⌝ }
 {
     let n = shape::frame_length(fs_khz, nb_subfr);
     if n <= output.len() {
-        return &mut output[..n];
+        return &output[0..n];
     }
-    &mut output[..0]
+    &output[0..0]
 }

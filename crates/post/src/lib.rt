@@ -184,14 +184,11 @@ pub extern "C" fn post_set_up(
 }
 
 #[no_mangle]
-pub extern "C" fn post_played(rate: i32, subframes: i32, output: &mut [i16]) -> i32
-    ensures { λ r. ⌜ (r ≡ pos (playedLength (shape rate subframes) (length (now (output .entry))))) × (now (output .exit) ≡ now (output .entry)) ⌝ }
+pub extern "C" fn post_played(rate: i32, subframes: i32, output: &[i16]) -> i32
+    ensures { λ r. ⌜ r ≡ pos (playedLength (shape rate subframes) (length (now (output .entry)))) ⌝ }
 {
-    let n = shape::frame_length(rate, subframes);
-    if n <= output.len() {
-        return n as i32;
-    }
-    0
+    let part = decoder::played(rate, subframes, output);
+    part.len() as i32
 }
 
 #[no_mangle]

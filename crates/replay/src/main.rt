@@ -374,11 +374,9 @@ fn noise(l: Lent, row: [i32; 64]) -> Called {
 }
 
 fn played(l: Lent, row: [i32; 64]) -> Called {
-    let mut output = l.output;
-    let answer = post::post_played(row[1], row[2], first16(&mut output, row[12]));
-    let mut left = l;
-    left.output = output;
-    Called { answer, left }
+    let output = l.output;
+    let answer = post::post_played(row[1], row[2], front16(&output, row[12]));
+    Called { answer, left: l }
 }
 
 fn stability(l: Lent, row: [i32; 64]) -> Called {

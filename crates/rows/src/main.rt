@@ -13,6 +13,7 @@ use line::Line;
 use line::blank;
 use line::fed;
 use refusal::number;
+use word::add32;
 use word::low16;
 
 const RECEIVED: i32 = 0;
@@ -476,34 +477,36 @@ fn params(x: Case) -> Params {
     }
 }
 
-fn buffer() -> [i16; 400] {
-    [0; 400]
-}
-
-fn mark(part: &mut [i16]) {
-    for i in 0..part.len() {
-        part[i] = 1;
-    }
-}
-
-fn marked(samples: &[i16; 400]) -> i32 {
-    let mut n: usize = 0;
+// Each sample is its place.
+fn numbered() -> [i16; 400] {
+    let mut samples = [0i16; 400];
+    let mut n = 0;
     for i in 0..400 {
-        if samples[i] == 1 {
-            n = n + 1;
-        }
+        samples[i] = low16(n);
+        n = add32(n, 1);
     }
-    n as i32
+    samples
 }
 
-// How many samples of an output are in the part that is played, marked there and counted in the whole.
+// The length of a part whose samples are 0, 1, 2 and so on; -1 for another.
+fn in_place(part: &[i16]) -> i32 {
+    let mut n = 0;
+    for i in 0..part.len() {
+        if part[i] != low16(n) {
+            return -1;
+        }
+        n = add32(n, 1);
+    }
+    n
+}
+
+// How many samples of an output are in the part that is played.
 fn played(khz: i32, nb_subfr: i32, lent: usize) -> i32 {
-    let mut output = buffer();
+    let output = numbered();
     if lent > 400 {
         return -1;
     }
-    mark(decoder::played(khz, nb_subfr, &mut output[..lent]));
-    marked(&output)
+    in_place(decoder::played(khz, nb_subfr, &output[..lent]))
 }
 
 fn made(khz: i32, nb_subfr: i32) -> i32 {
