@@ -1,7 +1,7 @@
 -- A whole frame that is played keeps a state accepted and in the ranges of its types (demand 3, its first half).
 use Prim.Native.Nat.{ℕ, _+_, _-_, _*_, _<_}
 use mathlib.Core.Path.{_≡_, refl, sym, ap, subst, _∙_}
-use mathlib.Core.Bool.{true, false, not, false≢true}
+use mathlib.Core.Bool.{true, false, not}
 use mathlib.Core.List.{List, []}
 use native.Mathlib.Omega.{arith}
 use native.Mathlib.Nat.{le-refl}
@@ -15,7 +15,7 @@ use Rattle.word.proofs.Order.{eqℤ-true}
 use Rattle.sigproc.proofs.Ranges.{Fit}
 use Rattle.shape.specs.Shape.{Shape, frameLength, lpcOrder, isRate, rateOf}
 use Rattle.shape.proofs.Shapes.{Shaped}
-use Rattle.decoder.specs.Signals.{signalNumber, isType, isVoiced}
+use Rattle.decoder.specs.Signals.{signalNumber, isVoiced}
 use Rattle.decoder.specs.State.{shapeOf}
 use Rattle.decoder.specs.Ranges.{linesFit}
 use Rattle.decoder.specs.Rows.{sizeRow, historyRow}
@@ -24,8 +24,6 @@ use Rattle.decoder.specs.Outcome.{Outcome}
 use Rattle.decoder.specs.Typed.{Words, Typed, TypedControl, TypedRows, TypedLines, TypedPlc}
 use Rattle.decoder.specs.declared.SilkDecoderState.{SilkDecoderState}
 use Rattle.decoder.specs.declared.SilkDecoderControl.{SilkDecoderControl}
-use Rattle.decoder.specs.declared.Signal.{Signal}
-use Rattle.decoder.specs.declared.Signal.the-variants.{NoVoiceActivity, Unvoiced, Voiced, Other}
 use Rattle.decoder.specs.declared.Params.{Params}
 use Rattle.decoder.proofs.Between.{Between, AllBetween, all-between}
 use Rattle.decoder.proofs.Bounds.{PlcBounds, CngBounds, bounds, history-fits}
@@ -52,13 +50,6 @@ next-loss (negsuc n) e f g = absurd (pos-ne-negsuc _ n (sym e))
 
 some-loss : (z : ℤ) (n : ℕ) → z ≡ pos (n + 1) → z ≡ pos 0 → ⊥
 some-loss z n e f = let h : n + 1 ≡ 0 = ap natAbs (sym e ∙ f) in omega arith
-
-signal-range : (x : Signal) → isType x ≡ true → Between 0 2 (signalNumber x)
-unfolding isType signalNumber
-signal-range NoVoiceActivity e = in-range 0 2 0 (omega arith) (omega arith)
-signal-range Unvoiced e = in-range 0 2 1 (omega arith) (omega arith)
-signal-range Voiced e = in-range 0 2 2 (omega arith) (omega arith)
-signal-range (Other n) e = absurd (false≢true e)
 
 module _ (p : Shape) (q : Shaped (p .rate) (p .subframes)) (s : SilkDecoderState) (shape : shapeOf s ≡ p) (k : Fine (p .rate) s) where
   module _ (c : SilkDecoderControl) (tc : TypedControl c) (free : eqℤ (s .«loss_cnt») (pos 2147483647) ≡ false) where
@@ -151,7 +142,7 @@ module _ (p : Shape) (q : Shaped (p .rate) (p .subframes)) (s : SilkDecoderState
         typed-build t (t .«prev_gain_q16») (t .«exc_q14») (t .«s_lpc_q14_buf») (t .«out_buf») (t .«lag_prev») (t .«prev_nlsf_q15») (record { sfits = omega arith })
         (t .«s_cng»)
         (record { sfits = omega arith })
-        (between-32 (signal-range (f .signal) (fit .type)) (omega arith))
+        (between-32 (fit .type) (omega arith))
         held-typed
 
     gain-kept : Between 65536 1686110208 (decoded .state .«prev_gain_q16»)
@@ -179,7 +170,7 @@ module _ (p : Shape) (q : Shaped (p .rate) (p .subframes)) (s : SilkDecoderState
           samples = samples-kept;
           loss = refl;
           lag = λ l. absurd (omega arith);
-          type = signal-range (f .signal) (fit .type);
+          type = fit .type;
           gain = gain-kept;
           first = in-range 0 1 0 (omega arith) (omega arith);
           lines = decoded-lines;

@@ -1,5 +1,6 @@
 -- Laws that other proofs cite.
 pub mod Tests
+pub mod Ends
 pub mod Between
 pub mod Bounds
 pub mod Types

@@ -71,7 +71,7 @@ pub struct SilkDecoderControl {
     pub ltp_scale_q14: i32,
 }
 
-// The signal type; Other is a number that is no type.
+// The signal type; what Other is, its number decides.
 pub enum Signal {
     NoVoiceActivity,
     Unvoiced,
@@ -298,22 +298,18 @@ pub fn signal_of(n: i8) -> Signal
 pub fn is_type(s: Signal) -> bool
     ensures { λ r. ⌜ r ≡ isType s ⌝ }
 {
-    match s {
-        Signal::NoVoiceActivity => true,
-        Signal::Unvoiced => true,
-        Signal::Voiced => true,
-        Signal::Other(_) => false,
+    match signal_number(s) {
+        0 | 1 | 2 => true,
+        _ => false,
     }
 }
 
 pub fn is_voiced(s: Signal) -> bool
     ensures { λ r. ⌜ r ≡ isVoiced s ⌝ }
 {
-    match s {
-        Signal::NoVoiceActivity => false,
-        Signal::Unvoiced => false,
-        Signal::Voiced => true,
-        Signal::Other(_) => false,
+    match signal_number(s) {
+        2 => true,
+        _ => false,
     }
 }
 

@@ -16,7 +16,7 @@ use Rattle.refusal.specs.Refusals.{refusalNumber}
 use Rattle.refusal.specs.declared.Refusal.the-variants.{Nothing}
 use Rattle.refusal.proofs.Clear.{Clear, real, clear, first-append}
 use Rattle.shape.specs.Shape.{Shape, rateOf, frameLength}
-use Rattle.decoder.specs.Signals.{isType, isVoiced}
+use Rattle.decoder.specs.Signals.{signalNumber, isType, isVoiced}
 use Rattle.decoder.specs.State.{shapeOf}
 use Rattle.decoder.specs.Ranges.{within, allWithin, onlyIf, linesFit}
 use Rattle.decoder.specs.Rows.{stateRows}
@@ -37,7 +37,7 @@ abbrev pub GainsFit : Shape → SilkDecoderControl → Type 0
 GainsFit p c = (k : ℕ) → k < p .subframes → Between 81920 1686110208 (getD (c .«gains_q16») k (pos 0))
 
 pub record ParamsFit (p : Shape) (q : Params) (c : SilkDecoderControl) : Type 0 where
-  pub type : isType (q .signal) ≡ true
+  pub type : Between 0 2 (signalNumber (q .signal))
   pub offset : Between 0 1 (q .«quant_offset_type»)
   pub interpolation : Between 0 4 (q .«nlsf_interp_coef_q2»)
   pub gains : GainsFit p c
@@ -50,7 +50,7 @@ unfolding gainRow
 gains-fit p c e = all-between 81920 1686110208 (c .«gains_q16») (p .subframes) (not-false _ e)
 
 params-fit : (p : Shape) (q : Params) (c : SilkDecoderControl) → Clear (paramRows p q c) → ParamsFit p q c
-unfolding signalRow lagRow tapsRow
+unfolding signalRow isType lagRow tapsRow
 params-fit p q c h =
     let v = isVoiced (q .signal) in
     let s = both (isType (q .signal) && within (pos 0) (pos 1) (q .«quant_offset_type»)) (within (pos 0) (pos 4) (q .«nlsf_interp_coef_q2»)) (not-false _ (h .0)) in
@@ -58,7 +58,7 @@ params-fit p q c h =
     let l = only v (allWithin (pos (2 * p .rate)) (pos (18 * p .rate)) (c .«pitch_l») (p .subframes)) (not-false _ (h .1 .1 .0)) in
     let u = both (within (pos 0) (pos 16384) (c .«ltp_scale_q14»)) (onlyIf v (tapsFit (c .«ltp_coef_q14») (p .subframes))) (not-false _ (h .1 .1 .1 .0)) in
     record {
-      type = t .0;
+      type = between 0 2 (signalNumber (q .signal)) (t .0);
       offset = between 0 1 (q .«quant_offset_type») (t .1);
       interpolation = between 0 4 (q .«nlsf_interp_coef_q2») (s .1);
       gains = gains-fit p c (h .1 .0);

@@ -1,5 +1,4 @@
 -- What an accepted call's rows say, as plain bounds.
-pub mod Ends
 pub mod Sums
 pub mod Bounds
 pub mod Alone

@@ -2,11 +2,13 @@
 
 use decoder::Frame;
 use decoder::Params;
+use decoder::Signal;
 use decoder::SilkCNGState;
 use decoder::SilkDecoderControl;
 use decoder::SilkDecoderState;
 use decoder::SilkPLCState;
 use decoder::set_up;
+use decoder::signal_of;
 use libc::STDIN_FILENO;
 use libc::STDOUT_FILENO;
 use line::Line;
@@ -151,6 +153,9 @@ const OUTPUT: i32 = 78;
 
 const LENGTH: i32 = 79;
 
+// A signal that is Signal::Other whatever its number.
+const OTHER: i32 = 80;
+
 const SAME: i32 = 99;
 
 // What the judges are asked about.
@@ -158,6 +163,7 @@ struct Case {
     state: SilkDecoderState,
     control: SilkDecoderControl,
     signal: i32,
+    other: bool,
     offset: i32,
     interpolation: i32,
     lines: [i16; 16],
@@ -354,6 +360,10 @@ fn frame_changed(old: Case, field: i32, value: i32) -> Case {
         SIGNAL => {
             new.signal = value;
         }
+        OTHER => {
+            new.signal = value;
+            new.other = true;
+        }
         OFFSET => {
             new.offset = value;
         }
@@ -441,6 +451,7 @@ fn base(khz: i32, nb_subfr: i32) -> Case {
         state,
         control,
         signal: 2,
+        other: false,
         offset: 0,
         interpolation: 4,
         lines,
@@ -467,8 +478,16 @@ fn lent(n: i32) -> usize {
     word::bits32(n) as usize
 }
 
+fn signal(x: Case) -> Signal {
+    let n = small(x.signal);
+    if x.other {
+        return Signal::Other(n);
+    }
+    signal_of(n)
+}
+
 fn params(x: Case) -> Params {
-    let signal = decoder::signal_of(small(x.signal));
+    let signal = signal(x);
     Params {
         signal,
         quant_offset_type: small(x.offset),

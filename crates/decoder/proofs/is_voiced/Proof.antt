@@ -1,37 +1,22 @@
+use mathlib.Core.Path.{sym}
+use lib.Dec.{lit<}
+use mir.Syntax.{w8}
+use Rattle.word.proofs.Order.{is, isnt}
 use Rattle.decoder.specs.Signals.{isVoiced}
-use borrow.Author.Needs.{needs}
 use Rattle.decoder.proofs.is_voiced.Statement.{statement}
 use Rattle.decoder.proofs.is_voiced.Tie as tie
 
-enum-told : tie.Need-enum-told
-enum-told c = search needs
-
-enum-told-2 : tie.Need-enum-told-2
-enum-told-2 c = search needs
-
-enum-told-3 : tie.Need-enum-told-3
-enum-told-3 c = search needs
-
-enum-told-4 : tie.Need-enum-told-4
-enum-told-4 c = search needs
-
 returns : tie.Need-returns
 unfolding isVoiced
-returns c = rw (c .enum-told .given .1)
+returns c =
+    let n = c .before .signal-number in
+    rw (← n .ensures) (sym (is w8 (n .result) 2 (lit< tt) (record { sfits = n .ok }) (c .match .keys1)))
 
 returns-2 : tie.Need-returns-2
 unfolding isVoiced
-returns-2 c = rw (c .enum-told2 .given .1)
-
-returns-3 : tie.Need-returns-3
-unfolding isVoiced
-returns-3 c = rw (c .enum-told3 .given .1)
-
-returns-4 : tie.Need-returns-4
-unfolding isVoiced
-returns-4 c = rw (c .enum-told4 .given .1)
+returns-2 c =
+    let n = c .before .signal-number in
+    rw (← n .ensures) (sym (isnt w8 (n .result) 2 (c .match .rest .1)))
 
 pub is-voiced-spec : {M : Type 1} → statement M
-is-voiced-spec =
-    tie.close
-    (tie.spec enum-told enum-told-2 enum-told-3 enum-told-4 returns returns-2 returns-3 returns-4)
+is-voiced-spec = tie.close (tie.spec (λ c κs. tt) returns returns-2)
