@@ -1,4 +1,5 @@
 // A check sum of numbers: in 32 bits, times the prime of FNV, and the next number added.
+// Inner: every function.
 use word::add32;
 use word::mul32;
 use word::wide16;

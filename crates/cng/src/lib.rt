@@ -1,4 +1,5 @@
 // Comfort noise (cng.rs).
+// Inner: every function but silk_cng.
 use decoder::SilkCNGState;
 use decoder::SilkDecoderControl;
 use decoder::SilkDecoderState;
@@ -419,20 +420,20 @@ fn comfort_noise(s: SilkDecoderState, gains: &[i32; 4], frame: &mut [i16]) -> Si
     t
 }
 
-// Comfort noise as a call: refused, it changes nothing.
+// Comfort noise as a call on the first n samples of a buffer: refused, it changes nothing.
 pub fn silk_cng(
     s: SilkDecoderState,
     c: SilkDecoderControl,
     frame: &mut [i16],
-    length: usize,
+    n: usize,
 ) -> CngAnswer
-    ensures { λ r. ⌜ (r ≡ cngAnswer s c (now (frame .entry)) length) × (now (frame .exit) ≡ cngOutput s c (now (frame .entry)) length) ⌝ }
+    ensures { λ r. ⌜ (r ≡ cngAnswer s c (now (frame .entry)) n) × (now (frame .exit) ≡ cngOutput s c (now (frame .entry)) n) ⌝ }
 {
-    let refusal = judge::cng(s, c, frame.len(), length);
+    let refusal = judge::cng(s, c, frame.len(), n);
     if refusal::number(refusal) != 0 {
         return CngAnswer { refusal, state: s };
     }
     let gains = c.gains_q16;
-    let state = comfort_noise(s, &gains, &mut frame[..length]);
+    let state = comfort_noise(s, &gains, &mut frame[..n]);
     CngAnswer { refusal, state }
 }

@@ -1,4 +1,5 @@
 // A received frame, from its excitation through long-term and short-term synthesis (decode_core.rs).
+// Inner: every function but silk_decode_core.
 use decoder::Params;
 use decoder::SilkDecoderControl;
 use decoder::SilkDecoderState;

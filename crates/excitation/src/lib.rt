@@ -1,4 +1,5 @@
 // A received frame's excitation (decode_core.rs).
+// Inner: every function.
 use macros::silk_rand;
 use word::add32;
 use word::neg32;

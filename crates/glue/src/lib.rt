@@ -1,4 +1,5 @@
 // Gluing of the first frame after a loss (plc.rs, silk_plc_glue_frames).
+// Inner: every function but silk_plc_glue_frames.
 use decoder::SilkDecoderState;
 use decoder::SilkPLCState;
 use macros::silk_clz32;
@@ -134,14 +135,14 @@ fn glue_frames(s: SilkDecoderState, frame: &mut [i16]) -> SilkDecoderState
     t
 }
 
-// Gluing as a call on the first samples of a buffer: refused, it changes nothing.
-pub fn silk_plc_glue_frames(s: SilkDecoderState, frame: &mut [i16], length: usize) -> GlueAnswer
-    ensures { λ r. ⌜ (r ≡ glueAnswer s (now (frame .entry)) length) × (now (frame .exit) ≡ glueOutput s (now (frame .entry)) length) ⌝ }
+// Gluing as a call on the first n samples of a buffer: refused, it changes nothing.
+pub fn silk_plc_glue_frames(s: SilkDecoderState, frame: &mut [i16], n: usize) -> GlueAnswer
+    ensures { λ r. ⌜ (r ≡ glueAnswer s (now (frame .entry)) n) × (now (frame .exit) ≡ glueOutput s (now (frame .entry)) n) ⌝ }
 {
-    let refusal = judge::glue(s, frame.len(), length);
+    let refusal = judge::glue(s, frame.len(), n);
     if refusal::number(refusal) != 0 {
         return GlueAnswer { refusal, state: s };
     }
-    let state = glue_frames(s, &mut frame[..length]);
+    let state = glue_frames(s, &mut frame[..n]);
     GlueAnswer { refusal, state }
 }

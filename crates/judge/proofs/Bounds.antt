@@ -68,18 +68,18 @@ params-fit p q c h =
     }
 
 -- ---- row 12
-pub record LengthFits (lent length : ℕ) : Type 0 where
-  pub some : 1 ≤ length
-  pub most : length ≤ 320
-  pub room : length ≤ lent
+pub record LengthFits (lent n : ℕ) : Type 0 where
+  pub some : 1 ≤ n
+  pub most : n ≤ 320
+  pub room : n ≤ lent
 
-length-fits : (lent length : ℕ) → lengthRow lent length ≡ false → LengthFits lent length
+length-fits : (lent n : ℕ) → lengthRow lent n ≡ false → LengthFits lent n
 unfolding lengthRow
-length-fits lent length e =
-    let a = neither (eqb length 0 || ltb 320 length) (ltb lent length) e in
-    let b = neither (eqb length 0) (ltb 320 length) (a .0) in
-    let z = eqb-false length 0 (b .0) in
-    record { some = pos-of-ne-zero z; most = ltb-false 320 length (b .1); room = ltb-false lent length (a .1) }
+length-fits lent n e =
+    let a = neither (eqb n 0 || ltb 320 n) (ltb lent n) e in
+    let b = neither (eqb n 0) (ltb 320 n) (a .0) in
+    let z = eqb-false n 0 (b .0) in
+    record { some = pos-of-ne-zero z; most = ltb-false 320 n (b .1); room = ltb-false lent n (a .1) }
 
 -- ---- a call of each kind
 pub record CoreFits (s : SilkDecoderState) (q : Params) (c : SilkDecoderControl) (pulses output : ℕ) : Type 0 where
@@ -101,14 +101,14 @@ pub record PlcReceivedFits (s : SilkDecoderState) (q : Params) (c : SilkDecoderC
   pub accepted : Accepted (rateOf (s .«fs_khz»)) s
   pub params : ParamsFit (shapeOf s) q c
 
-pub record GlueFits (s : SilkDecoderState) (lent length : ℕ) : Type 0 where
+pub record GlueFits (s : SilkDecoderState) (lent n : ℕ) : Type 0 where
   pub accepted : Accepted (rateOf (s .«fs_khz»)) s
-  pub length-fit : LengthFits lent length
+  pub length-fit : LengthFits lent n
 
-pub record CngFits (s : SilkDecoderState) (c : SilkDecoderControl) (lent length : ℕ) : Type 0 where
+pub record CngFits (s : SilkDecoderState) (c : SilkDecoderControl) (lent n : ℕ) : Type 0 where
   pub accepted : Accepted (rateOf (s .«fs_khz»)) s
   pub gains : eqℤ (s .«loss_cnt») (pos 0) ≡ true → GainsFit (shapeOf s) c
-  pub length-fit : LengthFits lent length
+  pub length-fit : LengthFits lent n
 
 -- of two runs of rows: the first are clear, and the rest is met
 met : (xs ys : List Row) → real xs ≡ true → refusalNumber (firstOf (xs ++ ys)) ≡ 0 → Clear xs × (refusalNumber (firstOf ys) ≡ 0)
@@ -162,17 +162,17 @@ plc-received-fits s q c e =
     let f = met (stateRows s) _ refl e in
     record { accepted = state-clear s (f .0); params = params-fit (shapeOf s) q c (clear _ Nothing refl (f .1) .0) }
 
-pub glue-fits : (s : SilkDecoderState) (lent length : ℕ) → refusalNumber (firstOf (glueRows s lent length)) ≡ 0 → GlueFits s lent length
-glue-fits s lent length e =
+pub glue-fits : (s : SilkDecoderState) (lent n : ℕ) → refusalNumber (firstOf (glueRows s lent n)) ≡ 0 → GlueFits s lent n
+glue-fits s lent n e =
     let f = met (stateRows s) _ refl e in
-    record { accepted = state-clear s (f .0); length-fit = length-fits lent length (clear _ Nothing refl (f .1) .0 .0) }
+    record { accepted = state-clear s (f .0); length-fit = length-fits lent n (clear _ Nothing refl (f .1) .0 .0) }
 
-pub cng-fits : (s : SilkDecoderState) (c : SilkDecoderControl) (lent length : ℕ) → refusalNumber (firstOf (cngRows s c lent length)) ≡ 0 → CngFits s c lent length
-cng-fits s c lent length e =
+pub cng-fits : (s : SilkDecoderState) (c : SilkDecoderControl) (lent n : ℕ) → refusalNumber (firstOf (cngRows s c lent n)) ≡ 0 → CngFits s c lent n
+cng-fits s c lent n e =
     let f = met (stateRows s) _ refl e in
     let h = clear _ Nothing refl (f .1) .0 in
     record {
       accepted = state-clear s (f .0);
       gains = λ z. gains-fit (shapeOf s) c (only-off (eqℤ (s .«loss_cnt») (pos 0)) (gainRow (shapeOf s .subframes) c) z (h .0));
-      length-fit = length-fits lent length (h .1 .0);
+      length-fit = length-fits lent n (h .1 .0);
     }

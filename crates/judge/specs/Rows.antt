@@ -52,7 +52,7 @@ roomRow p lent = ltb lent (frameLength p)
 
 -- a length of 0, above 320 or above the buffer
 unfoldable pub lengthRow : ℕ → ℕ → Bool
-lengthRow lent length = eqb length 0 || ltb 320 length || ltb lent length
+lengthRow lent n = eqb n 0 || ltb 320 n || ltb lent n
 
 -- rows 5 to 8 of a received frame
 abbrev pub paramRows : Shape → Params → SilkDecoderControl → List Row
@@ -94,12 +94,12 @@ plcReceivedRows s q c = stateRows s ++ paramRows (shapeOf s) q c
 
 -- those of gluing alone: 1 to 3 and 12
 abbrev pub glueRows : SilkDecoderState → ℕ → ℕ → List Row
-glueRows s lent length = stateRows s ++ (lengthRow lent length gives Length) ∷ []
+glueRows s lent n = stateRows s ++ (lengthRow lent n gives Length) ∷ []
 
 -- those of noise alone: 1 to 3, 6 only if loss_cnt is 0, and 12
 abbrev pub cngRows : SilkDecoderState → SilkDecoderControl → ℕ → ℕ → List Row
-cngRows s c lent length =
+cngRows s c lent n =
     stateRows s
     ++ ((eqℤ (s .«loss_cnt») (pos 0) && gainRow (shapeOf s .subframes) c) gives Gain)
-    ∷ (lengthRow lent length gives Length)
+    ∷ (lengthRow lent n gives Length)
     ∷ []

@@ -1,4 +1,5 @@
 // One judge for each set of document 01's rows.
+// Inner: every function.
 use decoder::Frame;
 use decoder::Params;
 use decoder::SilkDecoderControl;
@@ -138,10 +139,10 @@ fn room_row(fs_khz: i32, nb_subfr: i32, lent: usize) -> bool
     lent < frame_length(fs_khz, nb_subfr)
 }
 
-fn length_row(lent: usize, length: usize) -> bool
-    ensures { λ r. ⌜ r ≡ lengthRow lent length ⌝ }
+fn length_row(lent: usize, n: usize) -> bool
+    ensures { λ r. ⌜ r ≡ lengthRow lent n ⌝ }
 {
-    (length == 0) | (length > 320) | (length > lent)
+    (n == 0) | (n > 320) | (n > lent)
 }
 
 // Rows 1 to 3, and where none applies, what the rows after them give.
@@ -250,19 +251,19 @@ pub fn plc_received(s: SilkDecoderState, q: Params, c: SilkDecoderControl) -> Re
     state_rows(s, param_rows(s.fs_khz, s.nb_subfr, q, c, Refusal::Nothing))
 }
 
-pub fn glue(s: SilkDecoderState, lent: usize, length: usize) -> Refusal
-    ensures { λ r. ⌜ r ≡ firstOf (glueRows s lent length) ⌝ }
+pub fn glue(s: SilkDecoderState, lent: usize, n: usize) -> Refusal
+    ensures { λ r. ⌜ r ≡ firstOf (glueRows s lent n) ⌝ }
 {
     state_rows(
         s,
-        first(length_row(lent, length), Refusal::Length, Refusal::Nothing),
+        first(length_row(lent, n), Refusal::Length, Refusal::Nothing),
     )
 }
 
-pub fn cng(s: SilkDecoderState, c: SilkDecoderControl, lent: usize, length: usize) -> Refusal
-    ensures { λ r. ⌜ r ≡ firstOf (cngRows s c lent length) ⌝ }
+pub fn cng(s: SilkDecoderState, c: SilkDecoderControl, lent: usize, n: usize) -> Refusal
+    ensures { λ r. ⌜ r ≡ firstOf (cngRows s c lent n) ⌝ }
 {
-    let last = first(length_row(lent, length), Refusal::Length, Refusal::Nothing);
+    let last = first(length_row(lent, n), Refusal::Length, Refusal::Nothing);
     let heard = equals(s.loss_cnt, 0);
     let gain = gain_row(s.nb_subfr, c);
     state_rows(s, first(both(heard, gain), Refusal::Gain, last))

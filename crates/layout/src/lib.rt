@@ -1,4 +1,5 @@
 // How a state and a description lie in the slices that a program lends.
+// Inner: every function.
 use decoder::SilkCNGState;
 use decoder::SilkDecoderControl;
 use decoder::SilkDecoderState;

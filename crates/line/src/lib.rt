@@ -1,4 +1,5 @@
 // The numbers of a line of text, read byte by byte; all else in it is passed over.
+// Inner: every function.
 use word::add32;
 use word::mul32;
 use word::neg32;

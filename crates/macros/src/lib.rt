@@ -1,8 +1,8 @@
 // Fixed-point arithmetic of macros.rs, and silk_smultt of cng.rs.
+// Inner: every function.
 use word::abs32;
 use word::add32;
 use word::bits32;
-use word::limit32;
 use word::low_bit;
 use word::low16;
 use word::low32;
@@ -101,12 +101,6 @@ pub fn silk_add_sat16(a: i16, b: i16) -> i16
     ensures { λ r. ⌜ r ≡ sat16 (a +ℤ b) ⌝ }
 {
     sat16(sum32(a, b))
-}
-
-pub fn silk_sat16(a: i32) -> i32
-    ensures { λ r. ⌜ r ≡ sat16 a ⌝ }
-{
-    limit32(a, -32768, 32767)
 }
 
 pub fn silk_min_32(a: i32, b: i32) -> i32

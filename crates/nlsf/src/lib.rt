@@ -1,4 +1,5 @@
 // The filter from line frequencies (nlsf.rs, lpc_fit.rs, tables.rs).
+// Inner: every function but silk_nlsf2a.
 mod tables;
 
 use macros::silk_rshift_round;

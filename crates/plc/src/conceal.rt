@@ -1,4 +1,5 @@
 // Concealment of a lost frame (plc.rs, silk_plc_conceal).
+// Inner: every function but silk_plc_lost.
 use crate::PlcLostAnswer;
 use crate::update::noise_place;
 use crate::update::ready;

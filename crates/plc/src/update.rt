@@ -1,4 +1,5 @@
 // What concealment keeps of a received frame, its reset, and where it draws noise from (plc.rs: silk_plc_reset, silk_plc_update, silk_plc_energy).
+// Inner: every function but silk_plc_received.
 use crate::PlcAnswer;
 use decoder::Params;
 use decoder::Signal;

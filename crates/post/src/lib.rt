@@ -196,19 +196,19 @@ pub extern "C" fn post_glue(
     words: &mut [i32],
     halves: &mut [i16],
     buffer: &mut [i16],
-    length: usize,
+    n: usize,
 ) -> i32
-    ensures { λ r. ⌜ (r ≡ numberOf (glueCall (now (words .entry)) (now (halves .entry)) (now (buffer .entry)) length))
-        × (now (words .exit) ≡ newWords (glueCall (now (words .entry)) (now (halves .entry)) (now (buffer .entry)) length) (now (words .entry)))
-        × (now (halves .exit) ≡ newHalves (glueCall (now (words .entry)) (now (halves .entry)) (now (buffer .entry)) length) (now (halves .entry)))
-        × (now (buffer .exit) ≡ samples (glueCall (now (words .entry)) (now (halves .entry)) (now (buffer .entry)) length)
-        (glueOutput (stateIn (now (words .entry)) (now (halves .entry))) (now (buffer .entry)) length) (now (buffer .entry))) ⌝ }
+    ensures { λ r. ⌜ (r ≡ numberOf (glueCall (now (words .entry)) (now (halves .entry)) (now (buffer .entry)) n))
+        × (now (words .exit) ≡ newWords (glueCall (now (words .entry)) (now (halves .entry)) (now (buffer .entry)) n) (now (words .entry)))
+        × (now (halves .exit) ≡ newHalves (glueCall (now (words .entry)) (now (halves .entry)) (now (buffer .entry)) n) (now (halves .entry)))
+        × (now (buffer .exit) ≡ samples (glueCall (now (words .entry)) (now (halves .entry)) (now (buffer .entry)) n)
+        (glueOutput (stateIn (now (words .entry)) (now (halves .entry))) (now (buffer .entry)) n) (now (buffer .entry))) ⌝ }
 {
     if short_state(words.len(), halves.len()) {
         return -1;
     }
     let s = state_in(words, halves);
-    let a = silk_plc_glue_frames(s, buffer, length);
+    let a = silk_plc_glue_frames(s, buffer, n);
     let refusal = a.refusal;
     let t = a.state;
     keep_state(refusal, t, words, halves);
@@ -222,20 +222,20 @@ pub extern "C" fn post_noise(
     control: &[i32],
     taps: &[i16],
     buffer: &mut [i16],
-    length: usize,
+    n: usize,
 ) -> i32
-    ensures { λ r. ⌜ (r ≡ numberOf (noiseCall (now (words .entry)) (now (halves .entry)) (now (control .entry)) (now (taps .entry)) (now (buffer .entry)) length))
-        × (now (words .exit) ≡ newWords (noiseCall (now (words .entry)) (now (halves .entry)) (now (control .entry)) (now (taps .entry)) (now (buffer .entry)) length) (now (words .entry)))
-        × (now (halves .exit) ≡ newHalves (noiseCall (now (words .entry)) (now (halves .entry)) (now (control .entry)) (now (taps .entry)) (now (buffer .entry)) length) (now (halves .entry)))
-        × (now (buffer .exit) ≡ samples (noiseCall (now (words .entry)) (now (halves .entry)) (now (control .entry)) (now (taps .entry)) (now (buffer .entry)) length)
-        (cngOutput (stateIn (now (words .entry)) (now (halves .entry))) (controlIn (now (control .entry)) (now (taps .entry))) (now (buffer .entry)) length) (now (buffer .entry))) ⌝ }
+    ensures { λ r. ⌜ (r ≡ numberOf (noiseCall (now (words .entry)) (now (halves .entry)) (now (control .entry)) (now (taps .entry)) (now (buffer .entry)) n))
+        × (now (words .exit) ≡ newWords (noiseCall (now (words .entry)) (now (halves .entry)) (now (control .entry)) (now (taps .entry)) (now (buffer .entry)) n) (now (words .entry)))
+        × (now (halves .exit) ≡ newHalves (noiseCall (now (words .entry)) (now (halves .entry)) (now (control .entry)) (now (taps .entry)) (now (buffer .entry)) n) (now (halves .entry)))
+        × (now (buffer .exit) ≡ samples (noiseCall (now (words .entry)) (now (halves .entry)) (now (control .entry)) (now (taps .entry)) (now (buffer .entry)) n)
+        (cngOutput (stateIn (now (words .entry)) (now (halves .entry))) (controlIn (now (control .entry)) (now (taps .entry))) (now (buffer .entry)) n) (now (buffer .entry))) ⌝ }
 {
     if short_call(words.len(), halves.len(), control.len(), taps.len()) {
         return -1;
     }
     let s = state_in(words, halves);
     let c = control_in(control, taps);
-    let a = silk_cng(s, c, buffer, length);
+    let a = silk_cng(s, c, buffer, n);
     let refusal = a.refusal;
     let t = a.state;
     keep_state(refusal, t, words, halves);

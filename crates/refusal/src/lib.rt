@@ -1,4 +1,5 @@
 // Why a call is turned down: document 01's rows 1 to 13.
+// Inner: every function.
 ghost use mathlib.Core.Path.{_≡_};
 ghost use mathlib.Core.Bool.{cond};
 ghost use Rattle.refusal.specs.Refusals.{refusalNumber, refusalWord, textOf};

@@ -1,4 +1,5 @@
 // Rates, counts of subframes, and the lengths that follow from them.
+// Inner: every function.
 ghost use mathlib.Core.Path.{_≡_};
 ghost use Prim.Native.Nat.{_*_};
 ghost use lib.IntN.{pos};

@@ -1,4 +1,5 @@
 // Signal processing that the stages share (sigproc_fix.rs, and the synthesis of decode_core.rs, plc.rs and cng.rs).
+// Inner: every function.
 use macros::silk_add_sat32;
 use macros::silk_lshift_sat32;
 use macros::silk_rshift_round;

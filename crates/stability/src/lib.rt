@@ -1,4 +1,5 @@
 // The stability test of a short-term filter (lpc_analysis.rs).
+// Inner: every function but silk_lpc_inverse_pred_gain.
 use macros::silk_clz32;
 use macros::silk_inverse32_varq;
 use macros::silk_rshift_round64;

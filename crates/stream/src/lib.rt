@@ -1,4 +1,5 @@
 // Recorded streams and WAV files as bytes.
+// Inner: every function.
 use decoder::Frame;
 use decoder::Params;
 use decoder::SilkDecoderControl;

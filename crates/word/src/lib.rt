@@ -1,4 +1,5 @@
 // Signed words: exact sums and products in a wider word, the low bits of a wider number, shifts and order.
+// Inner: every function.
 // A shift takes the low bits of its amount, as a release build of Rust does.
 ghost use mathlib.Core.Path.{_≡_};
 ghost use Prim.Native.Nat.{_^_, _<_};

@@ -19,7 +19,7 @@ use Rattle.cng.proofs.silk_cng.Statement.{statement}
 use Rattle.cng.proofs.silk_cng.Tie as tie
 
 -- the number of the refusal
-refused : (c : tie.After-number) → let a = c .before .before .args in c .number .result ≡ refusalNumber (firstOf (cngRows (a .s) (a .c) (length (a .frame .now)) (a .length)))
+refused : (c : tie.After-number) → let a = c .before .before .args in c .number .result ≡ refusalNumber (firstOf (cngRows (a .s) (a .c) (length (a .frame .now)) (a .n)))
 refused c = c .number .ensures ∙ ap refusalNumber (c .before .cng .ensures)
 
 returns : tie.Need-returns
@@ -30,10 +30,10 @@ returns c =
     (rw (n .before .cng .ensures, was), rw was)
 
 -- what holds of a call that is not refused
-fits : (c : tie.Else1) → let a = c .before .before .before .args in CngFits (a .s) (a .c) (length (a .frame .now)) (a .length)
+fits : (c : tie.Else1) → let a = c .before .before .before .args in CngFits (a .s) (a .c) (length (a .frame .now)) (a .n)
 fits c = cng-fits _ _ _ _ (sym (refused (c .before)) ∙ c .if1 .left)
 
-room : (c : tie.Else1) → let a = c .before .before .before .args in length (take (a .length) (a .frame .now)) ≡ a .length
+room : (c : tie.Else1) → let a = c .before .before .before .args in length (take (a .n) (a .frame .now)) ≡ a .n
 room c = length-take-le _ _ (fits c .length-fit .room)
 
 slice-relend-prefix-comfort-noise : tie.Need-slice-relend-prefix-comfort-noise
@@ -61,9 +61,9 @@ returns-2 c =
     let gains = a .c .«gains_q16» in
     let ok = eq-eqb _ 0 (sym (refused n) ∙ i .if1 .left) in
     let e = rw (room i) at (w .comfort-noise .ensures) in
-    let f = first-samples p (a .s) gains (a .length) (a .frame .now) (fits i .length-fit .room) in
+    let f = first-samples p (a .s) gains (a .n) (a .frame .now) (fits i .length-fit .room) in
     let st = ap (λ (x : Framed). x .state) e ∙ f .0 in
-    let fr = ap (λ (x : Framed). x .frame ++ drop (a .length) (a .frame .now)) e ∙ f .1 in
+    let fr = ap (λ (x : Framed). x .frame ++ drop (a .n) (a .frame .now)) e ∙ f .1 in
     (rw (n .before .cng .ensures, ok, st), rw (ok) fr)
 
 pub silk-cng-spec : {M : Type 1} → statement M

@@ -13,7 +13,7 @@ use Rattle.glue.proofs.silk_plc_glue_frames.Statement.{statement}
 use Rattle.glue.proofs.silk_plc_glue_frames.Tie as tie
 
 -- the number of the refusal
-refused : (c : tie.After-number) → let a = c .before .before .args in c .number .result ≡ refusalNumber (glueRefusal (a .s) (a .frame .now) (a .length))
+refused : (c : tie.After-number) → let a = c .before .before .args in c .number .result ≡ refusalNumber (glueRefusal (a .s) (a .frame .now) (a .n))
 unfolding glueRefusal
 refused c = c .number .ensures ∙ ap refusalNumber (c .before .glue .ensures)
 
@@ -24,16 +24,16 @@ returns c =
     let z = ne-eqb _ 0 (λ e. c .if1 .taken (refused n ∙ e)) in
     (rw (n .before .glue .ensures, z), rw z refl)
 
-fits : (c : tie.Else1) → let a = c .before .before .before .args in GlueFits (a .s) (length (a .frame .now)) (a .length)
+fits : (c : tie.Else1) → let a = c .before .before .before .args in GlueFits (a .s) (length (a .frame .now)) (a .n)
 unfolding glueRefusal
-fits c = let a = c .before .before .before .args in glue-fits (a .s) (length (a .frame .now)) (a .length) (sym (refused (c .before)) ∙ c .if1 .left)
+fits c = let a = c .before .before .before .args in glue-fits (a .s) (length (a .frame .now)) (a .n) (sym (refused (c .before)) ∙ c .if1 .left)
 
 glue-frames-requires : tie.Need-glue-frames-requires
 glue-frames-requires c κs =
     let f = fits (c .before) in
     let a = c .before .before .before .before .args in
     let b = bounds (rateOf (a .s .«fs_khz»)) (a .s) (f .accepted) .plc in
-    let l = length-take-le (a .length) (a .frame .now) (f .length-fit .room) in
+    let l = length-take-le (a .n) (a .frame .now) (f .length-fit .room) in
     rw l (f .length-fit .some, f .length-fit .most, b .«conc_energy», b .«conc_energy_shift» .is, b .«conc_energy_shift» .high)
 
 returns-2 : tie.Need-returns-2

@@ -49,12 +49,12 @@ returns-2 c =
     let x = c .before .before .before .before .before .before .before .before .before .before .before .state-in .ensures in
     let y = c .before .before .before .before .before .before .before .before .before .before .control-in .ensures in
     let e = c .before .before .before .before .before .before .before .before .silk-cng .ensures in
-    let r = e .0 ∙ λ i. cngAnswer (x i) (y i) (a .buffer .now) (a .length) in
+    let r = e .0 ∙ λ i. cngAnswer (x i) (y i) (a .buffer .now) (a .n) in
     let g = c .before .before .before .keep-state .ensures in (
       rw h (kept w32 _ (c .code .ok) ∙ c .code .ensures ∙ λ i. pos (refusalNumber (r i .refusal))),
       rw h (g .0 ∙ λ i. ifAccepted (r i .refusal) (putAt (a .words .now) 0 (stateWords (r i .state))) (a .words .now)),
       rw h (g .1 ∙ λ i. ifAccepted (r i .refusal) (putAt (a .halves .now) 0 (stateHalves (r i .state))) (a .halves .now)),
-      rw h (e .1 ∙ λ i. cngOutput (x i) (y i) (a .buffer .now) (a .length)),
+      rw h (e .1 ∙ λ i. cngOutput (x i) (y i) (a .buffer .now) (a .n)),
     )
 
 pub post-noise-spec : {M : Type 1} → statement M
