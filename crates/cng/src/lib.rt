@@ -14,8 +14,8 @@ use refusal::Refusal;
 use shape::Rate;
 use shape::count_of;
 use sigproc::copy32_at;
-use sigproc::lpc_synthesis;
 use sigproc::played_sample;
+use sigproc::synthesis;
 use word::add32;
 use word::bits32;
 use word::low16;
@@ -274,7 +274,7 @@ fn noise_signal(buf: &mut [i32], h: SilkCNGState, d: usize) -> i32
     copy32_at(buf, 0, &memory);
     let seed = drawn(&mut buf[16..m], &h.cng_exc_buf_q14, exc_mask(n), held);
     let a = noise_filter(lines, d);
-    lpc_synthesis(buf, &a, d);
+    synthesis(buf, &a, d);
     seed
 }
 
@@ -353,10 +353,10 @@ fn followed(
     requires { ⌜ (isRate khz ≡ true) × (isCount «nb_subfr» ≡ true) ⌝ }
     ensures { λ r. ⌜ r ≡ cond (eqℤ «signal_type» (pos 0)) (tracked (shape khz «nb_subfr») (now (exc .entry)) lines (now (gains .entry)) h) h ⌝ }
 {
-    if signal_type != 0 {
-        return h;
+    match signal_type {
+        0 => tracked(h, exc, lines, gains, khz, nb_subfr),
+        _ => h,
     }
-    tracked(h, exc, lines, gains, khz, nb_subfr)
 }
 
 // What noise holds after a received frame.

@@ -15,6 +15,7 @@ use Rattle.sigproc.specs.Analysis.{residual}
 use Rattle.sigproc.specs.Synthesis.{ltpPrediction, synthesis, played}
 use Rattle.shape.specs.Shape.{Shape, subfrLength, frameLength, memLength, lpcOrder}
 use Rattle.decoder.specs.Signals.{isVoiced}
+use Rattle.decoder.specs.Ranges.{within}
 use Rattle.decoder.specs.Outcome.{Outcome, build}
 use Rattle.decoder.specs.declared.SilkDecoderState.{SilkDecoderState}
 use Rattle.decoder.specs.declared.SilkDecoderControl.{SilkDecoderControl}
@@ -83,7 +84,7 @@ inverseGainQ31 c k =
     let inverse = inverse32VarQ (getD (c .«gains_q16») k (pos 0)) (pos 47) in
     cond (eqb k 0) (wrap32 (smulwb inverse (c .«ltp_scale_q14») *ℤ pos (2 ^ 2))) inverse
 
--- what the subframes of a frame share
+-- what the subframes of a frame share; an interpolation below 4 is 0 to 3, since row 5 refuses all but 0 to 4
 unfoldable pub settingOf : Shape → SilkDecoderState → Params → Setting
 settingOf p s q =
     let voiced = isVoiced (q .signal) in
@@ -92,7 +93,7 @@ settingOf p s q =
       «ltp_mem_length» = memLength p;
       «lpc_order» = lpcOrder p;
       voiced = voiced;
-      interpolated = ltZ (q .«nlsf_interp_coef_q2») (pos 4);
+      interpolated = within (pos 0) (pos 3) (q .«nlsf_interp_coef_q2»);
       transition = transition s voiced;
       «lag_prev» = s .«lag_prev»;
     }

@@ -16,10 +16,10 @@ use shape::Rate;
 use shape::count_of;
 use sigproc::copy16_at;
 use sigproc::copy32_at;
-use sigproc::lpc_synthesis;
 use sigproc::ltp_prediction;
 use sigproc::scale_out;
 use sigproc::silk_lpc_analysis_filter;
+use sigproc::synthesis;
 use word::shl32;
 use word::wide8;
 use word::wide16;
@@ -33,6 +33,7 @@ ghost use lib.Signed.{ltZ};
 ghost use Rattle.word.specs.Int.{eqℤ};
 ghost use Rattle.shape.specs.Shape.{frameLength, countOf};
 ghost use Rattle.decoder.specs.State.{shapeOf};
+ghost use Rattle.decoder.specs.Ranges.{within};
 ghost use lib.ListN.{length, take, drop, getD, replicate};
 ghost use Rattle.macros.specs.Fixed.{smulwb, smulww};
 ghost use Rattle.sigproc.specs.Analysis.{residual};
@@ -164,12 +165,12 @@ fn keep(signal: &mut [i32])
 }
 
 // The samples that the memory and the residual in signal make; their last 16 are the new memory.
-fn short_term(signal: &mut [i32], row: &[i16; 16], d: usize, gain: i32, xq: &mut [i16])
+fn lpc_synthesis(signal: &mut [i32], row: &[i16; 16], d: usize, gain: i32, xq: &mut [i16])
     requires { ⌜ ((d ≡ 10) ⊎ (d ≡ 16)) × (length (now signal) ≡ 16 + length (now xq)) ⌝ }
     ensures { λ _. ⌜ (take 16 (now (signal .exit)) ≡ drop (length (now (xq .entry))) (synthesis (take 16 (now (signal .entry))) (drop 16 (now (signal .entry))) (now (row .entry)) d (length (now (xq .entry)))))
         × (now (xq .exit) ≡ map (played gain) (drop 16 (synthesis (take 16 (now (signal .entry))) (drop 16 (now (signal .entry))) (now (row .entry)) d (length (now (xq .entry)))))) ⌝ }
 {
-    lpc_synthesis(signal, row, d);
+    synthesis(signal, row, d);
     scale_out(xq, &signal[16..], gain);
     keep(signal);
 }
@@ -364,7 +365,7 @@ fn subframe(
         b.idx,
         &mut signal[16..],
     );
-    short_term(signal, &row, f.lpc_order, gain, &mut xq[at..end]);
+    lpc_synthesis(signal, &row, f.lpc_order, gain, &mut xq[at..end]);
     Carried {
         control: c,
         gain,
@@ -444,11 +445,23 @@ fn transition(loss_cnt: i32, prev_signal_type: i32, voiced: bool) -> bool
     ensures { λ r. ⌜ r ≡ (ltZ (pos 0) «loss_cnt» && eqℤ «prev_signal_type» (pos 2) && not voiced) ⌝ }
 {
     if loss_cnt > 0 {
-        if prev_signal_type == 2 {
-            return !voiced;
-        }
+        return match prev_signal_type {
+            2 => !voiced,
+            _ => false,
+        };
     }
     false
+}
+
+// 0 to 3 interpolate the lines, 4 does not; row 5 lets no other pass.
+fn interpolates(nlsf_interp_coef_q2: i8) -> bool
+    ensures { λ r. ⌜ r ≡ within (pos 0) (pos 3) «nlsf_interp_coef_q2» ⌝ }
+{
+    match nlsf_interp_coef_q2 {
+        0..=3 => true,
+        4 => false,
+        _ => false,
+    }
 }
 
 pub fn setting_of(s: SilkDecoderState, q: Params) -> Setting
@@ -461,12 +474,13 @@ pub fn setting_of(s: SilkDecoderState, q: Params) -> Setting
     let ltp_mem_length = Rate::ltp_mem_length(khz);
     let lpc_order = Rate::lpc_order(khz);
     let transition = transition(s.loss_cnt, s.prev_signal_type, voiced);
+    let interpolated = interpolates(q.nlsf_interp_coef_q2);
     Setting {
         subfr_length,
         ltp_mem_length,
         lpc_order,
         voiced,
-        interpolated: q.nlsf_interp_coef_q2 < 4,
+        interpolated,
         transition,
         lag_prev: s.lag_prev,
     }

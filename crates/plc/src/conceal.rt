@@ -2,6 +2,7 @@
 // Inner: every function but silk_plc_lost.
 use crate::PlcLostAnswer;
 use crate::update::noise_place;
+use crate::update::pitch_max_q8;
 use crate::update::ready;
 use decoder::SilkDecoderControl;
 use decoder::SilkDecoderState;
@@ -16,13 +17,12 @@ use macros::silk_smulbb;
 use macros::silk_smulwb;
 use shape::Rate;
 use shape::count_of;
-use shape::rate_of;
 use sigproc::copy32_at;
-use sigproc::lpc_synthesis;
 use sigproc::ltp_prediction;
 use sigproc::scale_out;
 use sigproc::silk_bwexpander;
 use sigproc::silk_lpc_analysis_filter;
+use sigproc::synthesis;
 use stability::inverse_pred_gain;
 use word::add32;
 use word::low16;
@@ -127,13 +127,16 @@ fn noise_gain(loss_cnt: i32, prev_signal_type: i32, a: &[i16; 16], d: usize) -> 
     requires { ⌜ (1 ≤ d) × (d ≤ 16) ⌝ }
     ensures { λ r. ⌜ r ≡ noiseGain «loss_cnt» «prev_signal_type» (take d (now (a .entry))) ⌝ }
 {
-    if prev_signal_type == 2 {
-        return by_loss(loss_cnt, 31130, 26214);
+    match prev_signal_type {
+        2 => by_loss(loss_cnt, 31130, 26214),
+        _ => {
+            if loss_cnt == 0 {
+                limited_gain(inverse_pred_gain(a, d))
+            } else {
+                29491
+            }
+        }
     }
-    if loss_cnt == 0 {
-        return limited_gain(inverse_pred_gain(a, d));
-    }
-    29491
 }
 
 fn faded(gain: i32, x: i16) -> i16
@@ -224,10 +227,10 @@ fn noise_scale(
     if loss_cnt != 0 {
         return rand_scale_q14;
     }
-    if prev_signal_type == 2 {
-        return voiced_scale(taps, ltp_scale_q14);
+    match prev_signal_type {
+        2 => voiced_scale(taps, ltp_scale_q14),
+        _ => 16384,
     }
-    16384
 }
 
 // The residual of the history from a place on, divided by the gain.
@@ -307,25 +310,25 @@ fn subframe(
     exc: &[i32],
     from: usize,
     k: Carried,
-    rate: usize,
+    khz: i32,
     at: usize,
     harm_gain_q15: i32,
     rand_gain_q15: i32,
 ) -> Carried
-    requires { ⌜ (from + 128 ≤ length (now exc)) × (8 ≤ rate) × (rate ≤ 16) × (20 * rate ≤ at) × (at + 5 * rate ≤ length (now buf))
-        × (within (pos (512 * rate)) (pos (4608 * rate)) (k .«pitch_q8») ≡ true) ⌝ }
-    ensures { λ r. ⌜ voiceOf (take (at + 5 * rate) (now (buf .exit))) r ≡ fadedVoice rate «harm_gain_q15» «rand_gain_q15»
-        (excitedTimes (now (exc .entry)) from (natAbs (lagOf (k .«pitch_q8»))) (5 * rate) (voiceOf (take at (now (buf .entry))) k)) ⌝ }
+    requires { ⌜ (from + 128 ≤ length (now exc)) × (8 ≤ rateOf khz) × (20 * rateOf khz ≤ at) × (at + 5 * rateOf khz ≤ length (now buf))
+        × (within (pos (512 * rateOf khz)) (pos (4608 * rateOf khz)) (k .«pitch_q8») ≡ true) ⌝ }
+    ensures { λ r. ⌜ voiceOf (take (at + 5 * rateOf khz) (now (buf .exit))) r ≡ fadedVoice (rateOf khz) «harm_gain_q15» «rand_gain_q15»
+        (excitedTimes (now (exc .entry)) from (natAbs (lagOf (k .«pitch_q8»))) (5 * rateOf khz) (voiceOf (take at (now (buf .entry))) k)) ⌝ }
 {
     let pitch = k.pitch_q8;
     let lag = lag_of(pitch) as usize;
-    let seed = excite(buf, exc, from, k, lag, at, 5 * rate);
+    let seed = excite(buf, exc, from, k, lag, at, Rate::subfr_length(khz));
     let held = k.taps;
     let taps = faded_taps(held, harm_gain_q15);
     Carried {
         taps: taps,
         scale_q14: faded(rand_gain_q15, k.scale_q14),
-        pitch_q8: drifted(pitch, (4608 * rate) as i32),
+        pitch_q8: drifted(pitch, pitch_max_q8(khz)),
         seed: seed,
     }
 }
@@ -336,20 +339,22 @@ fn subframes(
     exc: &[i32],
     from: usize,
     k0: Carried,
-    rate: usize,
+    khz: i32,
     n: usize,
     harm_gain_q15: i32,
     rand_gain_q15: i32,
 ) -> Carried
-    requires { ⌜ (from + 128 ≤ length (now exc)) × (8 ≤ rate) × (rate ≤ 16) × (n ≤ 4) × (length (now buf) ≡ 640)
-        × (within (pos (512 * rate)) (pos (4608 * rate)) (k0 .«pitch_q8») ≡ true) ⌝ }
-    ensures { λ r. ⌜ voiceOf (take (20 * rate + 5 * rate * n) (now (buf .exit))) r ≡ voices (record { rate = rate; subframes = n }) (now (exc .entry)) from «harm_gain_q15» «rand_gain_q15» n
-        (voiceOf (take (20 * rate) (now (buf .entry))) k0) ⌝ }
+    requires { ⌜ (from + 128 ≤ length (now exc)) × (8 ≤ rateOf khz) × (n ≤ 4) × (length (now buf) ≡ 640)
+        × (within (pos (512 * rateOf khz)) (pos (4608 * rateOf khz)) (k0 .«pitch_q8») ≡ true) ⌝ }
+    ensures { λ r. ⌜ voiceOf (take (20 * rateOf khz + 5 * rateOf khz * n) (now (buf .exit))) r ≡ voices (record { rate = rateOf khz; subframes = n }) (now (exc .entry)) from «harm_gain_q15» «rand_gain_q15» n
+        (voiceOf (take (20 * rateOf khz) (now (buf .entry))) k0) ⌝ }
 {
+    let mem = Rate::ltp_mem_length(khz);
+    let l = Rate::subfr_length(khz);
     let mut k = k0;
     for j in 0..n {
-        let at = 20 * rate + 5 * rate * j;
-        k = subframe(buf, exc, from, k, rate, at, harm_gain_q15, rand_gain_q15);
+        let at = mem + l * j;
+        k = subframe(buf, exc, from, k, khz, at, harm_gain_q15, rand_gain_q15);
     }
     k
 }
@@ -372,7 +377,7 @@ fn synthesise(
     let base = mem - 16;
     let end = mem + len;
     copy32_at(buf, base, &memory);
-    lpc_synthesis(&mut buf[base..end], a, d);
+    synthesis(&mut buf[base..end], a, d);
     scale_out(&mut xq[..len], &buf[mem..end], gain_q16);
     let mut after = memory;
     copy32_at(&mut after, 0, &buf[end - 16..end]);
@@ -403,17 +408,18 @@ fn rewhitened(
     out_buf: &[i16],
     a: &[i16; 16],
     h: SilkPLCState,
-    rate: usize,
+    khz: i32,
     n: usize,
     d: usize,
 )
-    requires { ⌜ ((d ≡ 10) ⊎ (d ≡ 16)) × (d ≡ orderOf rate) × (d + 2 ≤ 2 * rate) × (rate ≤ 16) × (length (now «out_buf») ≡ 480) × (length (now buf) ≡ 640)
-        × ((i : ℕ) → getD (now buf) i (pos 0) ≡ pos 0) × (within (pos (512 * rate)) (pos (4608 * rate)) (h .«pitch_l_q8») ≡ true) ⌝ }
-    ensures { λ _. ⌜ take (20 * rate) (now (buf .exit)) ≡ rewhitened (record { rate = rate; subframes = n }) (now («out_buf» .entry)) (now (a .entry)) h ⌝ }
+    requires { ⌜ ((d ≡ 10) ⊎ (d ≡ 16)) × (d ≡ orderOf (rateOf khz)) × (d + 2 ≤ 2 * rateOf khz) × (length (now «out_buf») ≡ 480) × (length (now buf) ≡ 640)
+        × ((i : ℕ) → getD (now buf) i (pos 0) ≡ pos 0) × (within (pos (512 * rateOf khz)) (pos (4608 * rateOf khz)) (h .«pitch_l_q8») ≡ true) ⌝ }
+    ensures { λ _. ⌜ take (20 * rateOf khz) (now (buf .exit)) ≡ rewhitened (record { rate = rateOf khz; subframes = n }) (now («out_buf» .entry)) (now (a .entry)) h ⌝ }
 {
     let gains = h.prev_gain_q16;
     let lag = lag_of(h.pitch_l_q8) as usize;
-    rewhiten(buf, out_buf, a, d, 20 * rate, lag, inverse_gain(gains[1]));
+    let mem = Rate::ltp_mem_length(khz);
+    rewhiten(buf, out_buf, a, d, mem, lag, inverse_gain(gains[1]));
 }
 
 // The frame's excitation, and what is carried on.
@@ -426,21 +432,21 @@ fn voice(
     a: &[i16; 16],
     from: usize,
     h: SilkPLCState,
-    rate: usize,
+    khz: i32,
     n: usize,
     d: usize,
 ) -> Carried
-    requires { ⌜ (from + 128 ≤ length (now exc)) × ((d ≡ 10) ⊎ (d ≡ 16)) × (d ≡ orderOf rate) × (d + 2 ≤ 2 * rate) × (8 ≤ rate) × (rate ≤ 16) × (n ≤ 4)
+    requires { ⌜ (from + 128 ≤ length (now exc)) × ((d ≡ 10) ⊎ (d ≡ 16)) × (d ≡ orderOf (rateOf khz)) × (d + 2 ≤ 2 * rateOf khz) × (8 ≤ rateOf khz) × (n ≤ 4)
         × (length (now «out_buf») ≡ 480) × (length (now buf) ≡ 640)
-        × ((i : ℕ) → getD (now buf) i (pos 0) ≡ pos 0) × (within (pos (512 * rate)) (pos (4608 * rate)) (h .«pitch_l_q8») ≡ true) ⌝ }
-    ensures { λ r. ⌜ voiceOf (take (20 * rate + 5 * rate * n) (now (buf .exit))) r
-        ≡ voiceBy (record { rate = rate; subframes = n }) «loss_cnt» «prev_signal_type» (now (exc .entry)) (now («out_buf» .entry)) (now (a .entry)) from h ⌝ }
+        × ((i : ℕ) → getD (now buf) i (pos 0) ≡ pos 0) × (within (pos (512 * rateOf khz)) (pos (4608 * rateOf khz)) (h .«pitch_l_q8») ≡ true) ⌝ }
+    ensures { λ r. ⌜ voiceOf (take (20 * rateOf khz + 5 * rateOf khz * n) (now (buf .exit))) r
+        ≡ voiceBy (record { rate = rateOf khz; subframes = n }) «loss_cnt» «prev_signal_type» (now (exc .entry)) (now («out_buf» .entry)) (now (a .entry)) from h ⌝ }
 {
-    rewhitened(buf, out_buf, a, h, rate, n, d);
+    rewhitened(buf, out_buf, a, h, khz, n, d);
     let k = starting(loss_cnt, prev_signal_type, h);
     let harm = harm_gain(loss_cnt);
     let noise = noise_gain(loss_cnt, prev_signal_type, a, d);
-    subframes(buf, exc, from, k, rate, n, harm, noise)
+    subframes(buf, exc, from, k, khz, n, harm, noise)
 }
 
 // What concealment holds after a frame.
@@ -473,16 +479,16 @@ fn conceal(
     prev_signal_type: i32,
     h: SilkPLCState,
     from: usize,
-    rate: usize,
+    khz: i32,
     n: usize,
     d: usize,
     xq: &mut [i16],
 ) -> Concealed
-    requires { ⌜ (from + 128 ≤ length (now exc)) × ((d ≡ 10) ⊎ (d ≡ 16)) × (d ≡ orderOf rate) × (d + 2 ≤ 2 * rate) × (8 ≤ rate) × (rate ≤ 16) × (n ≤ 4)
-        × (length (now «out_buf») ≡ 480) × (10 * rate ≤ 5 * rate * n) × (5 * rate * n ≤ 20 * rate) × (5 * rate * n ≤ length (now xq))
-        × (within (pos (512 * rate)) (pos (4608 * rate)) (h .«pitch_l_q8») ≡ true) ⌝ }
-    ensures { λ r. ⌜ (r ≡ concealedBy (record { rate = rate; subframes = n }) (voiceBy (record { rate = rate; subframes = n }) «loss_cnt» «prev_signal_type» (now (exc .entry)) (now («out_buf» .entry)) a from h) memory a h)
-        × (now (xq .exit) ≡ map (played (laterGain h)) (drop 16 (signalBy (record { rate = rate; subframes = n }) (voiceBy (record { rate = rate; subframes = n }) «loss_cnt» «prev_signal_type» (now (exc .entry)) (now («out_buf» .entry)) a from h) memory a)) ++ drop (5 * rate * n) (now (xq .entry))) ⌝ }
+    requires { ⌜ (from + 128 ≤ length (now exc)) × ((d ≡ 10) ⊎ (d ≡ 16)) × (d ≡ orderOf (rateOf khz)) × (d + 2 ≤ 2 * rateOf khz) × (8 ≤ rateOf khz) × (n ≤ 4)
+        × (length (now «out_buf») ≡ 480) × (10 * rateOf khz ≤ 5 * rateOf khz * n) × (5 * rateOf khz * n ≤ 20 * rateOf khz) × (5 * rateOf khz * n ≤ length (now xq))
+        × (within (pos (512 * rateOf khz)) (pos (4608 * rateOf khz)) (h .«pitch_l_q8») ≡ true) ⌝ }
+    ensures { λ r. ⌜ (r ≡ concealedBy (record { rate = rateOf khz; subframes = n }) (voiceBy (record { rate = rateOf khz; subframes = n }) «loss_cnt» «prev_signal_type» (now (exc .entry)) (now («out_buf» .entry)) a from h) memory a h)
+        × (now (xq .exit) ≡ map (played (laterGain h)) (drop 16 (signalBy (record { rate = rateOf khz; subframes = n }) (voiceBy (record { rate = rateOf khz; subframes = n }) «loss_cnt» «prev_signal_type» (now (exc .entry)) (now («out_buf» .entry)) a from h) memory a)) ++ drop (5 * rateOf khz * n) (now (xq .entry))) ⌝ }
 {
     let mut buf = no_history();
     let k = voice(
@@ -494,7 +500,7 @@ fn conceal(
         &a,
         from,
         h,
-        rate,
+        khz,
         n,
         d,
     );
@@ -504,8 +510,8 @@ fn conceal(
         memory,
         &a,
         d,
-        20 * rate,
-        5 * rate * n,
+        Rate::ltp_mem_length(khz),
+        Rate::subfr_length(khz) * n,
         gains[1],
         xq,
     );
@@ -518,16 +524,16 @@ fn conceal(
 }
 
 // Where a frame's noise is drawn from.
-fn place(exc: &[i32], h: SilkPLCState, rate: usize, n: usize) -> usize
-    requires { ⌜ (8 ≤ rate) × (rate ≤ 16) × (2 ≤ n) × (n ≤ 4) × (length (now exc) ≡ 320) × (subframesHeld rate (h .«nb_subfr») (h .«subfr_length») ≡ true) ⌝ }
-    ensures { λ r. ⌜ r ≡ placeFrom (heardBy (getD (h .«prev_gain_q16») 0 (pos 0)) (take (5 * rate) (drop ((0 + n - 2) * (5 * rate)) (now (exc .entry)))))
-        (heardBy (getD (h .«prev_gain_q16») 1 (pos 0)) (take (5 * rate) (drop ((1 + n - 2) * (5 * rate)) (now (exc .entry))))) (h .«nb_subfr») (h .«subfr_length») ⌝ }
+fn place(exc: &[i32], h: SilkPLCState, khz: i32, n: usize) -> usize
+    requires { ⌜ (8 ≤ rateOf khz) × (2 ≤ n) × (n ≤ 4) × (length (now exc) ≡ 320) × (subframesHeld (rateOf khz) (h .«nb_subfr») (h .«subfr_length») ≡ true) ⌝ }
+    ensures { λ r. ⌜ r ≡ placeFrom (heardBy (getD (h .«prev_gain_q16») 0 (pos 0)) (take (5 * rateOf khz) (drop ((0 + n - 2) * (5 * rateOf khz)) (now (exc .entry)))))
+        (heardBy (getD (h .«prev_gain_q16») 1 (pos 0)) (take (5 * rateOf khz) (drop ((1 + n - 2) * (5 * rateOf khz)) (now (exc .entry))))) (h .«nb_subfr») (h .«subfr_length») ⌝ }
 {
     let gains = h.prev_gain_q16;
     noise_place(
         exc,
         gains,
-        5 * rate,
+        Rate::subfr_length(khz),
         n,
         h.nb_subfr as usize,
         h.subfr_length as usize,
@@ -538,22 +544,22 @@ fn place(exc: &[i32], h: SilkPLCState, rate: usize, n: usize) -> usize
 fn conceal_ready(
     s: SilkDecoderState,
     h: SilkPLCState,
-    rate: usize,
+    khz: i32,
     n: usize,
     d: usize,
     xq: &mut [i16],
 ) -> Concealed
-    requires { ⌜ ((d ≡ 10) ⊎ (d ≡ 16)) × (d ≡ orderOf rate) × (d + 2 ≤ 2 * rate) × (8 ≤ rate) × (rate ≤ 16) × (2 ≤ n) × (n ≤ 4)
-        × (10 * rate ≤ 5 * rate * n) × (5 * rate * n ≤ 20 * rate) × (5 * rate * n ≤ length (now xq)) × (plcHeld rate h ≡ true) ⌝ }
-    ensures { λ r. ⌜ (r ≡ concealedBy (record { rate = rate; subframes = n }) (voice (record { rate = rate; subframes = n }) s h) (s .«s_lpc_q14_buf») (coefficients (record { rate = rate; subframes = n }) s h) h)
-        × (now (xq .exit) ≡ concealed (record { rate = rate; subframes = n }) s h ++ drop (5 * rate * n) (now (xq .entry))) ⌝ }
+    requires { ⌜ ((d ≡ 10) ⊎ (d ≡ 16)) × (d ≡ orderOf (rateOf khz)) × (d + 2 ≤ 2 * rateOf khz) × (8 ≤ rateOf khz) × (2 ≤ n) × (n ≤ 4)
+        × (10 * rateOf khz ≤ 5 * rateOf khz * n) × (5 * rateOf khz * n ≤ 20 * rateOf khz) × (5 * rateOf khz * n ≤ length (now xq)) × (plcHeld (rateOf khz) h ≡ true) ⌝ }
+    ensures { λ r. ⌜ (r ≡ concealedBy (record { rate = rateOf khz; subframes = n }) (voice (record { rate = rateOf khz; subframes = n }) s h) (s .«s_lpc_q14_buf») (coefficients (record { rate = rateOf khz; subframes = n }) s h) h)
+        × (now (xq .exit) ≡ concealed (record { rate = rateOf khz; subframes = n }) s h ++ drop (5 * rateOf khz * n) (now (xq .entry))) ⌝ }
 {
     let exc = s.exc_q14;
     let out_buf = s.out_buf;
     let memory = s.s_lpc_q14_buf;
     let prev = h.prev_lpc_q12;
     let a = coefficients(s.first_frame_after_reset, prev, d);
-    let from = place(&exc, h, rate, n);
+    let from = place(&exc, h, khz, n);
     conceal(
         &exc,
         &out_buf,
@@ -563,7 +569,7 @@ fn conceal_ready(
         s.prev_signal_type,
         h,
         from,
-        rate,
+        khz,
         n,
         d,
         xq,
@@ -605,11 +611,10 @@ pub fn plc_conceal(s: SilkDecoderState, c: SilkDecoderControl, xq: &mut [i16]) -
         × (now (xq .exit) ≡ plcConceal (shapeOf s) s c .samples ++ drop (frameLength (shapeOf s)) (now (xq .entry))) ⌝ }
 {
     let khz = s.fs_khz;
-    let rate = rate_of(khz);
     let n = count_of(s.nb_subfr);
     let held = s.s_plc;
-    let h = ready(held, rate, n);
-    let r = conceal_ready(s, h, rate, n, Rate::lpc_order(khz), xq);
+    let h = ready(held, khz, n);
+    let r = conceal_ready(s, h, khz, n, Rate::lpc_order(khz), xq);
     let state = lost_state(s, r);
     let control = lagged(c, r.lag);
     Lost {

@@ -14,10 +14,12 @@ use macros::silk_max_32;
 use macros::silk_smulbb;
 use macros::silk_smulww;
 use shape::Rate;
+use shape::rate_of;
 use sigproc::Energy;
 use sigproc::silk_sum_sqr_shift;
 use sigproc::with_front;
 use word::low16;
+use word::mul32;
 use word::sat16;
 use word::shl32;
 use word::shr32;
@@ -31,7 +33,7 @@ ghost use lib.Signed.{ltZ, quotZ};
 ghost use Rattle.word.specs.Int.{sat16, wrap16, floorDiv, modℤ, maxℤ};
 ghost use Rattle.macros.specs.Fixed.{smulww, smulbb};
 ghost use Rattle.sigproc.specs.Energy.{sumSqrShift};
-ghost use Rattle.shape.specs.Shape.{shape, countOf};
+ghost use Rattle.shape.specs.Shape.{shape, rateOf, countOf};
 ghost use Rattle.decoder.specs.Signals.{signalNumber};
 ghost use Rattle.decoder.specs.State.{shapeOf};
 ghost use Rattle.plc.specs.Hold.{plcReady};
@@ -40,18 +42,18 @@ ghost use Rattle.plc.specs.Answer.{plcReceived};
 ghost use Rattle.plc.specs.Conceal.{heardBy, olderSmaller, placeFrom};
 
 // If its rate differs, concealment resets.
-pub fn ready(h: SilkPLCState, rate: usize, subframes: usize) -> SilkPLCState
-    requires { ⌜ (rate ≤ 16) × (subframes ≤ 4) ⌝ }
-    ensures { λ r. ⌜ r ≡ plcReady (record { rate = rate; subframes = subframes }) h ⌝ }
+pub fn ready(h: SilkPLCState, khz: i32, subframes: usize) -> SilkPLCState
+    requires { ⌜ subframes ≤ 4 ⌝ }
+    ensures { λ r. ⌜ r ≡ plcReady (record { rate = rateOf khz; subframes = subframes }) h ⌝ }
 {
-    let khz = rate as i32;
-    if khz == h.fs_khz {
+    let rate = rate_of(khz) as i32;
+    if rate == h.fs_khz {
         return h;
     }
     let mut t = h;
-    t.pitch_l_q8 = (5 * rate * subframes * 128) as i32;
+    t.pitch_l_q8 = (Rate::subfr_length(khz) * subframes * 128) as i32;
     t.prev_gain_q16 = [65536, 65536];
-    t.fs_khz = khz;
+    t.fs_khz = rate;
     t.nb_subfr = 2;
     t.subfr_length = 20;
     t
@@ -142,18 +144,19 @@ fn stronger(b: Strongest, reached: bool, sum: i32, lag: i32) -> Strongest
 fn strongest_subframe(
     lags: &[i32; 4],
     taps: &[i16; 20],
-    rate: usize,
+    khz: i32,
     subframes: usize,
     pitch: i32,
 ) -> Strongest
-    requires { ⌜ (rate ≤ 16) × (1 ≤ subframes) × (subframes ≤ 4) ⌝ }
-    ensures { λ r. ⌜ r ≡ strongest (record { rate = rate; subframes = subframes }) (now (lags .entry)) (now (taps .entry)) pitch subframes ⌝ }
+    requires { ⌜ (1 ≤ subframes) × (subframes ≤ 4) ⌝ }
+    ensures { λ r. ⌜ r ≡ strongest (record { rate = rateOf khz; subframes = subframes }) (now (lags .entry)) (now (taps .entry)) pitch subframes ⌝ }
 {
+    let l = Rate::subfr_length(khz);
     let last = lags[subframes - 1];
     let mut b = Strongest { gain: 0, pitch };
     for j in 0..subframes {
         let k = subframes - 1 - j;
-        let start = (j * (5 * rate)) as i32;
+        let start = (j * l) as i32;
         b = stronger(b, start < last, tap_sum(taps, k), lags[k]);
     }
     b
@@ -190,14 +193,21 @@ pub struct Pulse {
     pub pitch: i32,
 }
 
-fn pulse_of(voiced: bool, c: SilkDecoderControl, rate: usize, subframes: usize, pitch: i32) -> Pulse
-    requires { ⌜ (rate ≤ 16) × (1 ≤ subframes) × (subframes ≤ 4) ⌝ }
-    ensures { λ r. ⌜ r ≡ pulseOf (record { rate = rate; subframes = subframes }) voiced c pitch ⌝ }
+// The largest pitch (Q8): 18 ms.
+pub fn pitch_max_q8(khz: i32) -> i32
+    ensures { λ r. ⌜ r ≡ pos (4608 * rateOf khz) ⌝ }
+{
+    mul32(256, Rate::lag_max(khz))
+}
+
+fn pulse_of(voiced: bool, c: SilkDecoderControl, khz: i32, subframes: usize, pitch: i32) -> Pulse
+    requires { ⌜ (1 ≤ subframes) × (subframes ≤ 4) ⌝ }
+    ensures { λ r. ⌜ r ≡ pulseOf (record { rate = rateOf khz; subframes = subframes }) voiced c pitch ⌝ }
 {
     if voiced {
         let lags = c.pitch_l;
         let taps = c.ltp_coef_q14;
-        let b = strongest_subframe(&lags, &taps, rate, subframes, pitch);
+        let b = strongest_subframe(&lags, &taps, khz, subframes, pitch);
         return Pulse {
             tap: scaled_tap(b.gain),
             pitch: b.pitch,
@@ -205,7 +215,7 @@ fn pulse_of(voiced: bool, c: SilkDecoderControl, rate: usize, subframes: usize, 
     }
     Pulse {
         tap: 0,
-        pitch: (4608 * rate) as i32,
+        pitch: pitch_max_q8(khz),
     }
 }
 
@@ -236,7 +246,7 @@ pub fn plc_updated(
     ensures { λ r. ⌜ r ≡ plcUpdated (shape khz «nb_subfr») voiced c row h ⌝ }
 {
     let n = shape::count_of(nb_subfr);
-    let b = pulse_of(voiced, c, shape::rate_of(khz), n, h.pitch_l_q8);
+    let b = pulse_of(voiced, c, khz, n, h.pitch_l_q8);
     let lpc = h.prev_lpc_q12;
     let gains = c.gains_q16;
     let taps = middle(b.tap);
@@ -266,7 +276,7 @@ pub fn received(
     ensures { λ r. ⌜ r ≡ updatedBy (shape khz «nb_subfr») signal c rows held ⌝ }
 {
     let row = rows[1];
-    let h = ready(held, shape::rate_of(khz), shape::count_of(nb_subfr));
+    let h = ready(held, khz, shape::count_of(nb_subfr));
     plc_updated(h, khz, nb_subfr, is_voiced(signal), c, row)
 }
 

@@ -220,7 +220,7 @@ fn synthesised(u: i32, p: i32) -> i32
 }
 
 // The synthesis of order d, for a caller that passes a constant. A copy of the coefficients can stay in registers.
-fn synthesis(buf: &mut [i32], a: &[i16; 16], d: usize)
+fn synthesis_of_order(buf: &mut [i32], a: &[i16; 16], d: usize)
     requires { ⌜ (1 ≤ d) × (d ≤ 16) × (16 ≤ length (now buf)) ⌝ }
     ensures { λ _. ⌜ now (buf .exit) ≡ synthesis (take 16 (now (buf .entry))) (drop 16 (now (buf .entry))) (now (a .entry)) d (length (now (buf .entry)) - 16) ⌝ }
 {
@@ -231,14 +231,14 @@ fn synthesis(buf: &mut [i32], a: &[i16; 16], d: usize)
 }
 
 // The first 16 places hold the memory, the others the excitation, which the samples replace.
-pub fn lpc_synthesis(buf: &mut [i32], a: &[i16; 16], d: usize)
+pub fn synthesis(buf: &mut [i32], a: &[i16; 16], d: usize)
     requires { ⌜ ((d ≡ 10) ⊎ (d ≡ 16)) × (16 ≤ length (now buf)) ⌝ }
     ensures { λ _. ⌜ now (buf .exit) ≡ synthesis (take 16 (now (buf .entry))) (drop 16 (now (buf .entry))) (now (a .entry)) d (length (now (buf .entry)) - 16) ⌝ }
 {
     if d == 10 {
-        synthesis(buf, a, 10);
+        synthesis_of_order(buf, a, 10);
     } else {
-        synthesis(buf, a, 16);
+        synthesis_of_order(buf, a, 16);
     }
 }
 

@@ -47,7 +47,7 @@ returns c =
     let b : putMid 16 n (one .copy32-at .last .0) (u .drawn .last .0) ≡ h .«cng_synth_state» ++ exc =
     rw (e, one .copy32-at .ensures) (loaded buf (h .«cng_synth_state») exc (sixteen s) (s .pre .0) (length-drawn _ _ _ n)) in (
       rw (got w32 (u .drawn .ok) (u .drawn .ensures .0), l, z),
-      rw (c .before .lpc-synthesis .ensures, f .noise-filter .ensures, b)
+      rw (c .before .synthesis .ensures, f .noise-filter .ensures, b)
           (signal (h .«cng_synth_state») exc a (drop (s .args .d) (replicate 16 (pos 0))) (s .args .d) n (sixteen s) (length-drawn _ _ _ n) (length-nlsf2a _ _)),
     )
 

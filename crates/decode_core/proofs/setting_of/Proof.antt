@@ -20,11 +20,12 @@ returns c =
       m .ltp-mem-length .ensures,
       o .lpc-order .ensures,
       t .transition .ensures,
+      c .before .interpolates .ensures,
       v .is-voiced .ensures,
       kept w32 (s .«fs_khz») (v .before .struct-told .given .1 .1 .1 .1 .1 .0 .1),
       kept w32 (s .«loss_cnt») (t .before .before .struct-told2 .given .1 .1 .1 .1 .1 .1 .1 .1 .1 .1 .1 .1 .1 .1 .0 .1),
       kept w32 (s .«prev_signal_type») (t .before .struct-told3 .given .1 .1 .1 .1 .1 .1 .1 .1 .1 .1 .1 .1 .1 .1 .1 .0 .1),
-      kept w8 (a .args .q .«nlsf_interp_coef_q2») (c .before .struct-told4 .given .1 .1 .0 .1),
+      kept w8 (a .args .q .«nlsf_interp_coef_q2») (c .before .before .struct-told4 .given .1 .1 .0 .1),
       kept w32 (s .«lag_prev») (c .struct-told5 .given .1 .1 .1 .1 .0 .1),
     )
 
@@ -32,4 +33,4 @@ pub setting-of-spec : {M : Type 1} → statement M
 setting-of-spec =
     tie.close
     (tie.spec (λ c κs. search needs) (λ c κs. search needs) (λ c κs. search needs) (λ c κs. search needs)
-    (λ c κs. search needs) returns)
+    (λ c κs. search needs) (λ c κs. tt) returns)

@@ -46,15 +46,15 @@ long-term-requires c κs =
       length-take-le (length s - 16) (drop 16 s) (simp length-drop (omega arith)) ∙ omega arith,
     )
 
-mul-short-term : tie.Need-mul-short-term
-mul-short-term c =
+mul-lpc-synthesis : tie.Need-mul-lpc-synthesis
+mul-lpc-synthesis c =
     let p = c .before .before .before .before .before .before .before .before .before .before .before .before .before .before .before .before .before .before .before .before .before .pre .0 in
     let k : c .before .before .before .before .before .before .before .before .before .before .before .before .before .before .before .before .before .before .before .before .before .args .k ≤ 3 = omega (arith, p .place) in
     let m = mul-le-mul (p .sized .subframe) k in
     record { fits = omega arith }
 
-short-term-requires : tie.Need-short-term-requires
-short-term-requires c κs =
+lpc-synthesis-requires : tie.Need-lpc-synthesis-requires
+lpc-synthesis-requires c κs =
     let t = c .before .before .before .before .before .before in
     let l = t .before .before .before .before .before .before .before in
     let a = l .before .before .before .before .before .before .before .before .before in
@@ -76,7 +76,7 @@ same-length c =
     let n = l .load .kept .0 in
     let h : 16 ≤ length s = omega (arith, a .pre .2) in
     let k = t .long-term .kept .1 .1 .1 .1 .1 .1 .1 .1 .1 .0 ∙ length-take-le (length s - 16) (drop 16 s) (simp length-drop (omega arith)) in
-    v .short-term .kept .0 ∙ length-mid 16 (length s - 16) s (t .long-term .last .1 .1 .1 .1 .1 .1 .1 .1 .1 .0) k (omega arith) ∙ n
+    v .lpc-synthesis .kept .0 ∙ length-mid 16 (length s - 16) s (t .long-term .last .1 .1 .1 .1 .1 .1 .1 .1 .1 .0) k (omega arith) ∙ n
 
 returns : tie.Need-returns
 returns c =
@@ -93,17 +93,17 @@ returns c =
     let xq = a .args .xq .now in
     let s = l .load .last .0 in
     let res = t .long-term .last .1 .1 .1 .1 .1 .1 .1 .1 .1 .0 in
-    let out = v .short-term .last .1 .1 .1 .1 .0 in
+    let out = v .lpc-synthesis .last .1 .1 .1 .1 .0 in
     let z = getD (r .control-at .result .«gains_q16») k (pos 0) in
     let after : Carried = record { control = r .control-at .result; gain = toZ w32 (ofZ w32 z); idx = t .long-term .result } in
     let n : length s ≡ 16 + N = l .load .kept .0 ∙ a .pre .2 in
     let q : take (length s - 16) (drop 16 s) ≡ drop 16 s = take-all (length s - 16) (drop 16 s) (simp length-drop (omega arith)) in
     let x : length (take (at + N - at) (drop at xq)) ≡ N = length-take-le (at + N - at) (drop at xq) (simp length-drop (omega (arith, a .pre .5))) ∙ omega arith in
-    let y : length out ≡ N = v .short-term .kept .1 .1 .1 .1 .0 ∙ x in
+    let y : length out ≡ N = v .lpc-synthesis .kept .1 .1 .1 .1 .0 ∙ x in
     let h = rw q at (t .long-term .ensures) in
     let adj = kept w32 (g .gain-adjustment .result) (g .gain-adjustment .ok) ∙ g .gain-adjustment .ensures ∙ ap (λ (i : ℤ). gainAdjustment i (toZ w32 (ofZ w32 z))) (kept w32 (a .args .b .gain) (g .before .struct-told .given .1 .0 .1)) in (
       rw (part-front at N xq out y (a .pre .5))
-          (one-more f (a .args .t3) (a .args .exc .now) k (a .args .b) after (getD (a .args .t3) (k / 2) []) (toZ w32 (ofZ w32 (g .gain-adjustment .result))) (a .args .past .now) (t .long-term .last .1 .1 .1 .1 .1 .1 .1 .0) (a .args .signal .now) s (putMid 16 (length s - 16) s res) (v .short-term .last .0) (a .args .«out-buf» .now) (t .long-term .last .1 .1 .1 .1 .1 .1 .0) (take at xq) res out
+          (one-more f (a .args .t3) (a .args .exc .now) k (a .args .b) after (getD (a .args .t3) (k / 2) []) (toZ w32 (ofZ w32 (g .gain-adjustment .result))) (a .args .past .now) (t .long-term .last .1 .1 .1 .1 .1 .1 .1 .0) (a .args .signal .now) s (putMid 16 (length s - 16) s res) (v .lpc-synthesis .last .0) (a .args .«out-buf» .now) (t .long-term .last .1 .1 .1 .1 .1 .1 .0) (take at xq) res out
           (r .control-at .ensures)
           refl
           (kept w32 z (g .before .before .gain .given))
@@ -112,8 +112,8 @@ returns c =
           (rw (add-sub-cancel-left at N) at (l .load .ensures))
           h
           (part-end 16 s res (omega arith))
-          (rw x at (v .short-term .ensures .0))
-          (rw x at (v .short-term .ensures .1))),
+          (rw x at (v .lpc-synthesis .ensures .0))
+          (rw x at (v .lpc-synthesis .ensures .1))),
       part-back at N xq out y (a .pre .5),
       h .words,
       h .places,
@@ -125,6 +125,6 @@ subframe-spec =
     (tie.spec (λ c. search needs) (λ c. search needs) (λ c κs. search needs) (λ c. search needs) (λ c. search needs)
     (λ c. search needs) (λ c. search needs) gain-adjustment-requires (λ c. search needs) (λ c. search needs)
     (λ c. search needs) (λ c. search needs) (λ c κs. search needs) (λ c. search needs) slice-aggregate-long-term
-    (λ c. search needs) (λ c. search needs) (λ c. search needs) long-term-requires mul-short-term (λ c. search needs)
-    (λ c. search needs) (λ c. search needs) short-term-requires same-length (λ c. search needs) (λ c. search needs)
+    (λ c. search needs) (λ c. search needs) (λ c. search needs) long-term-requires mul-lpc-synthesis (λ c. search needs)
+    (λ c. search needs) (λ c. search needs) lpc-synthesis-requires same-length (λ c. search needs) (λ c. search needs)
     (λ c. search needs) returns)

@@ -16,7 +16,7 @@ returns : tie.Need-returns
 unfolding noiseGain
 returns c =
     let a = c .before .before in
-    rw (is w32 _ 2 (lit< tt) (a .fits .«prev-signal-type») (c .before .if1 .taken), got w32 (c .by-loss .ok) (c .by-loss .ensures), toZ-ofZ (a .fits .«loss-cnt»))
+    rw (is w32 _ 2 (lit< tt) (a .fits .«prev-signal-type») (c .before .match .keys1), got w32 (c .by-loss .ok) (c .by-loss .ensures), toZ-ofZ (a .fits .«loss-cnt»))
 
 returns-2 : tie.Need-returns-2
 unfolding noiseGain
@@ -25,8 +25,8 @@ returns-2 c =
     let a = i .before .before .before .before in
     let g = inverse-gain (take (a .args .d) (a .args .a .now)) in
     rw (
-      isnt w32 (a .args .«prev-signal-type») 2 (i .before .before .before .if1 .left),
-      is w32 _ 0 (lit< tt) (a .fits .«loss-cnt») (i .before .before .if2 .taken),
+      isnt w32 (a .args .«prev-signal-type») 2 (i .before .before .before .match .rest .1),
+      is w32 _ 0 (lit< tt) (a .fits .«loss-cnt») (i .before .before .if1 .taken),
       got w32 (c .limited-gain .ok) (c .limited-gain .ensures),
       got w32 (i .inverse-pred-gain .ok) (i .inverse-pred-gain .ensures),
       g .1,
@@ -37,8 +37,8 @@ returns-3 : tie.Need-returns-3
 unfolding noiseGain
 returns-3 c =
     let a = c .before .before in
-    rw (isnt w32 (a .args .«prev-signal-type») 2 (c .before .if1 .left), isnt w32 (a .args .«loss-cnt») 0 (c .if2 .left))
+    rw (isnt w32 (a .args .«prev-signal-type») 2 (c .before .match .rest .1), isnt w32 (a .args .«loss-cnt») 0 (c .if1 .left))
 
 pub noise-gain-spec : {M : Type 1} → statement M
 noise-gain-spec =
-    tie.close (tie.spec (λ c κs. tt) returns (λ c κs. search needs) (λ c κs. tt) returns-2 returns-3)
+    tie.close (tie.spec (λ c κs. tt) (λ c κs. search needs) (λ c κs. tt) returns returns-2 returns-3)

@@ -7,7 +7,7 @@ use mir.Syntax.{w32}
 use mir.Val.{toZ, ofZ}
 use Rattle.word.proofs.Words.{kept}
 use Rattle.shape.specs.Shape.{shape, rateOf, countOf, orderOf, frameLength}
-use Rattle.shape.proofs.Shapes.{rates, counts, shape-bounds, rate-le, count-le}
+use Rattle.shape.proofs.Shapes.{rates, counts, shape-bounds, count-le}
 use Rattle.decoder.specs.Outcome.{build}
 use Rattle.decoder.specs.State.{shapeOf}
 use Rattle.decoder.proofs.Bounds.{plc-bounds, plc-held-fits}
@@ -21,42 +21,37 @@ use Rattle.plc.proofs.conceal.plc_conceal.Tie as tie
 khz : (c : tie.After-struct-told) → let s = c .before .args .s in toZ w32 (ofZ w32 (s .«fs_khz»)) ≡ s .«fs_khz»
 khz c = kept w32 _ (c .struct-told .given .1 .1 .1 .1 .1 .0 .1)
 
-rate : (c : tie.After-rate-of) → c .rate-of .result ≡ rateOf (c .before .before .args .s .«fs_khz»)
-rate c = c .rate-of .ensures ∙ ap rateOf (khz (c .before))
-
-count : (c : tie.After-count-of) → c .count-of .result ≡ countOf (c .before .before .before .before .args .s .«nb_subfr»)
+count : (c : tie.After-count-of) → c .count-of .result ≡ countOf (c .before .before .before .args .s .«nb_subfr»)
 count c = c .count-of .ensures ∙ ap countOf (kept w32 _ (c .before .struct-told2 .given .1 .1 .1 .1 .1 .1 .0 .1))
 
-readied : (c : tie.After-ready) → let s = c .before .before .before .before .before .before .args .s in c .ready .result ≡ plcReady (shapeOf s) (s .«s_plc»)
-readied c = c .ready .ensures ∙ rw (rate (c .before .before .before .before), count (c .before .before))
+readied : (c : tie.After-ready) → let s = c .before .before .before .before .before .args .s in c .ready .result ≡ plcReady (shapeOf s) (s .«s_plc»)
+readied c = c .ready .ensures ∙ rw (khz (c .before .before .before .before), count (c .before .before))
 
-order : (c : tie.After-lpc-order) → c .lpc-order .result ≡ orderOf (rateOf (c .before .before .before .before .before .before .before .args .s .«fs_khz»))
-order c =
-    c .lpc-order .ensures ∙ rw (khz (c .before .before .before .before .before .before))
+order : (c : tie.After-lpc-order) → c .lpc-order .result ≡ orderOf (rateOf (c .before .before .before .before .before .before .args .s .«fs_khz»))
+order c = c .lpc-order .ensures ∙ rw (khz (c .before .before .before .before .before))
 
 ready-requires : tie.Need-ready-requires
 ready-requires c κs =
     let n = c .before in
-    let s = n .before .before .before .before .args .s in
-    (rw (rate (n .before .before)) (rate-le (s .«fs_khz»)), rw (count n) (count-le (s .«nb_subfr»)))
+    rw (count n) (count-le (n .before .before .before .args .s .«nb_subfr»))
 
 conceal-ready-requires : tie.Need-conceal-ready-requires
 conceal-ready-requires c κs =
     let o = c .before in
     let h = o .before in
     let n = h .before .before in
-    let r = n .before .before in
-    let b = r .before .before in
+    let k = n .before .before in
+    let b = k .before in
     let s = b .args .s in
     let e = rates (s .«fs_khz») (b .pre .0) in
     let g = shape-bounds e (counts (s .«nb_subfr») (b .pre .1)) in
     let d = orders e in
-    rw (order o, readied h, count n, rate r)
-    (d .0, refl, d .1, g .rate-low, g .rate-high, g .count-low, g .count-high, g .frame-low, g .frame-high, b .pre .5, plc-held-fits (rateOf (s .«fs_khz»)) _ (ready-held (shapeOf s) (s .«s_plc») g (plc-bounds (rateOf (s .«fs_khz»)) (s .«s_plc») (b .pre .2))))
+    rw (order o, readied h, count n, khz k)
+    (d .0, refl, d .1, g .rate-low, g .count-low, g .count-high, g .frame-low, g .frame-high, b .pre .5, plc-held-fits (rateOf (s .«fs_khz»)) _ (ready-held (shapeOf s) (s .«s_plc») g (plc-bounds (rateOf (s .«fs_khz»)) (s .«s_plc») (b .pre .2))))
 
 lost-state-requires : tie.Need-lost-state-requires
 lost-state-requires c κs =
-    let b = c .before .before .before .before .before .before .before .before .before .before in
+    let b = c .before .before .before .before .before .before .before .before .before in
     (b .pre .3, b .pre .4)
 
 returns : tie.Need-returns
@@ -67,11 +62,11 @@ returns c =
     let o = x .before .before in
     let h = o .before in
     let n = h .before .before in
-    let r = n .before .before in
-    let b = r .before .before in
+    let k = n .before .before in
+    let b = k .before in
     let s = b .args .s in
-    let e = rw (readied h, count n, rate r) at (x .conceal-ready .ensures .0) in
-    let f = rw (readied h, count n, rate r) at (x .conceal-ready .ensures .1) in
+    let e = rw (readied h, count n, khz k) at (x .conceal-ready .ensures .0) in
+    let f = rw (readied h, count n, khz k) at (x .conceal-ready .ensures .1) in
     let state = l .lost-state .ensures
     ∙ (λ i. build s (s .«prev_gain_q16») (s .«exc_q14») (e i .memory) (s .«out_buf») (s .«lag_prev») (s .«prev_nlsf_q15») (s .«first_frame_after_reset») (s .«s_cng») (s .«loss_cnt» +ℤ pos 1) (s .«prev_signal_type») (e i .plc)) in
     let control = c .lagged .ensures ∙ ap (lagged (b .args .c)) (kept w32 _ (c .before .struct-told3 .given .1 .1 .0 .1)) ∙ (λ i. lagged (b .args .c) (e i .lag)) in
@@ -80,5 +75,4 @@ returns c =
 pub plc-conceal-spec : {M : Type 1} → statement M
 plc-conceal-spec =
     tie.close
-    (tie.spec (λ c κs. search needs) (λ c κs. search needs) ready-requires (λ c κs. search needs)
-    conceal-ready-requires lost-state-requires (λ c κs. search needs) (λ c. search needs) returns)
+    (tie.spec (λ c κs. search needs) ready-requires (λ c κs. search needs) conceal-ready-requires lost-state-requires (λ c κs. search needs) (λ c. search needs) returns)

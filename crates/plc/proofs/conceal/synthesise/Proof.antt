@@ -25,7 +25,7 @@ scale-out-requires c κs =
     let p = l .before .before .before in
     let s = p .before .before .before in
     let a = s .args in
-    let b = same-len-mid (a .mem - 16) (a .mem + a .len - (a .mem - 16)) (p .copy32-at .last .0) (l .lpc-synthesis .last .0) (l .lpc-synthesis .kept .0) in
+    let b = same-len-mid (a .mem - 16) (a .mem + a .len - (a .mem - 16)) (p .copy32-at .last .0) (l .synthesis .last .0) (l .synthesis .kept .0) in
     length-take-le (a .len) (a .xq .now) (s .pre .5)
     ∙ sym (length-take-le (a .mem + a .len - a .mem) _ (simp length-drop (omega (arith, b, p .copy32-at .kept .0))) ∙ omega arith)
 
@@ -42,8 +42,8 @@ returns c =
     let b = p .copy32-at .last .0 in
     let u = drop mem (take (mem + len) (a .buf .now)) in
     let made = synthesis (a .t2) u (a .a .now) (a .d) len in
-    let e : l .lpc-synthesis .last .0 ≡ made =
-    l .lpc-synthesis .ensures
+    let e : l .synthesis .last .0 ≡ made =
+    l .synthesis .ensures
     ∙ made-in (a .buf .now) (a .t2) (a .a .now) (a .d) mem len m16 (s .pre .1) (s .pre .3) (take (mem + len - (mem - 16)) (drop (mem - 16) b))
     (ap (λ (x : List ℤ). take (mem + len - (mem - 16)) (drop (mem - 16) x)) (p .copy32-at .ensures)) in
     let after : length (drop len made) ≡ length (a .t2) = memory-length (a .t2) u (a .a .now) (a .d) len in

@@ -16,7 +16,7 @@ subframes-requires : tie.Need-subframes-requires
 subframes-requires c κs =
     let k = c .before .before .before in
     let s = k .before .before .before .before in
-    (search needs, search needs, search needs, search needs, search needs, rw (k .starting .ensures) (s .pre .10))
+    rw (toZ-ofZ (s .fits .khz)) (search needs, s .pre .4, search needs, search needs, rw (k .starting .ensures) (s .pre .9))
 
 returns : tie.Need-returns
 unfolding voiceBy
@@ -27,12 +27,13 @@ returns c =
     let k = m .before in
     let w = k .before .before in
     let s = w .before .before in
+    let z = toZ-ofZ (s .fits .khz) in
     rw (
-      f .subframes .ensures,
+      rw z at (f .subframes .ensures),
       got w32 (n .noise-gain .ok) (n .noise-gain .ensures),
       got w32 (m .harm-gain .ok) (m .harm-gain .ensures),
       k .starting .ensures,
-      w .rewhitened .ensures,
+      rw z at (w .rewhitened .ensures),
       toZ-ofZ (s .fits .«loss-cnt»),
       toZ-ofZ (s .fits .«prev-signal-type»),
       s .pre .2,

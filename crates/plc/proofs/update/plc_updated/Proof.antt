@@ -21,35 +21,29 @@ use Rattle.plc.proofs.update.plc_updated.Tie as tie
 count : (c : tie.After-count-of) → c .count-of .result ≡ countOf (c .before .args .«nb-subfr»)
 count c = c .count-of .ensures ∙ rw (toZ-ofZ (c .before .fits .«nb-subfr»))
 
-rate : (c : tie.After-rate-of) → c .rate-of .result ≡ rateOf (c .before .before .args .khz)
-rate c = c .rate-of .ensures ∙ rw (toZ-ofZ (c .before .before .fits .khz))
-
 few : (c : tie.After-count-of) → c .count-of .result ≤ 4
 few c = rw (count c) (count-le (c .before .args .«nb-subfr»))
 
 some : (c : tie.After-count-of) → 2 ≤ c .count-of .result
 some c = rw (count c) (c .before .pre)
 
-slow : (c : tie.After-rate-of) → c .rate-of .result ≤ 16
-slow c = rw (rate c) (rate-le (c .before .before .args .khz))
+order : (c : tie.After-lpc-order) → let a = c .before .before .before .before .before .before .before .before in c .lpc-order .result ≡ orderOf (rateOf (a .args .khz))
+order c = let a = c .before .before .before .before .before .before .before .before in c .lpc-order .ensures ∙ rw (toZ-ofZ (a .fits .khz))
 
-order : (c : tie.After-lpc-order) → let a = c .before .before .before .before .before .before .before .before .before in c .lpc-order .result ≡ orderOf (rateOf (a .args .khz))
-order c = let a = c .before .before .before .before .before .before .before .before .before in c .lpc-order .ensures ∙ rw (toZ-ofZ (a .fits .khz))
-
-sub : (c : tie.After-subfr-length) → let a = c .before .before .before .before .before .before .before .before .before .before .before .before .before .before .before in c .subfr-length .result ≡ 5 * rateOf (a .args .khz)
+sub : (c : tie.After-subfr-length) → let a = c .before .before .before .before .before .before .before .before .before .before .before .before .before .before in c .subfr-length .result ≡ 5 * rateOf (a .args .khz)
 sub c =
-    let a = c .before .before .before .before .before .before .before .before .before .before .before .before .before .before .before in
+    let a = c .before .before .before .before .before .before .before .before .before .before .before .before .before .before in
     c .subfr-length .ensures ∙ rw (toZ-ofZ (a .fits .khz))
 
 short : (c : tie.After-subfr-length) → c .subfr-length .result ≤ 80
-short c = omega (arith, sub c, rate-le (c .before .before .before .before .before .before .before .before .before .before .before .before .before .before .before .args .khz))
+short c = omega (arith, sub c, rate-le (c .before .before .before .before .before .before .before .before .before .before .before .before .before .before .args .khz))
 
 -- the pulse
-found : (c : tie.After-pulse-of) → let a = c .before .before .before .before .args in c .pulse-of .result ≡ pulseOf (shape (a .khz) (a .«nb-subfr»)) (a .voiced) (a .c) (a .h .«pitch_l_q8»)
+found : (c : tie.After-pulse-of) → let a = c .before .before .before .args in c .pulse-of .result ≡ pulseOf (shape (a .khz) (a .«nb-subfr»)) (a .voiced) (a .c) (a .h .«pitch_l_q8»)
 found c =
-    let r = c .before .before in
-    let a = r .before .before .args in
-    c .pulse-of .ensures ∙ rw (rate r, count (r .before), kept w32 (a .h .«pitch_l_q8») (c .before .struct-told .given .0 .1))
+    let n = c .before .before in
+    let a = n .before .args in
+    c .pulse-of .ensures ∙ rw (toZ-ofZ (n .before .fits .khz), count n, kept w32 (a .h .«pitch_l_q8») (c .before .struct-told .given .0 .1))
 
 returns : tie.Need-returns
 unfolding plcUpdated
@@ -59,8 +53,8 @@ returns c =
     let l = g .before in
     let m = l .before .before in
     let p = m .before .before .before .before in
-    let r = p .before .before in
-    let a = r .before .before in
+    let k = p .before .before in
+    let a = k .before in
     let h = a .args .h in
     let b = p .pulse-of .result in
     let f = found p in
@@ -69,16 +63,16 @@ returns c =
     let taps = m .middle .ensures ∙ ap middle tap in
     let lpc = l .with-front .ensures ∙ ap (λ (d : ℕ). take d (a .args .row) ++ drop d (h .«prev_lpc_q12»)) (order (l .before)) in
     let scale = o .low16 .ensures ∙ ap wrap16 (kept w32 (a .args .c .«ltp_scale_q14») (o .before .struct-told4 .given .1 .1 .1 .0 .1)) in
-    let gains = g .last-gains .ensures ∙ ap (λ (n : ℕ). getD (a .args .c .«gains_q16») (n - 2) (pos 0) ∷ getD (a .args .c .«gains_q16») (n - 1) (pos 0) ∷ []) (count (r .before)) in
-    let n = toZ-pos w32 {n = r .before .count-of .result} (omega (arith, few (r .before))) ∙ ap pos (count (r .before)) in
+    let gains = g .last-gains .ensures ∙ ap (λ (n : ℕ). getD (a .args .c .«gains_q16») (n - 2) (pos 0) ∷ getD (a .args .c .«gains_q16») (n - 1) (pos 0) ∷ []) (count k) in
+    let n = toZ-pos w32 {n = k .count-of .result} (omega (arith, few k)) ∙ ap pos (count k) in
     let len = toZ-pos w32 {n = c .subfr-length .result} (omega (arith, short c)) ∙ ap pos (sub c) in
     λ i. hold h (pitch i) (taps i) (lpc i) (h .«rand_seed») (h .«rand_scale_q14») (scale i) (gains i) (h .«fs_khz») (n i) (len i)
 
 pub plc-updated-spec : {M : Type 1} → statement M
 plc-updated-spec =
     tie.close
-    (tie.spec (λ c κs. tt) (λ c κs. tt) (λ c κs. omega (arith, few (c .before .before), some (c .before .before), slow (c .before)))
+    (tie.spec (λ c κs. tt) (λ c κs. omega (arith, few (c .before), some (c .before)))
     (λ c κs. tt) (λ c κs. tt) (λ c κs. rw (order c) (order-le _))
-    (λ c κs. let n = c .before .before .before .before .before .before .before .before .before in (some n, few n)) (λ c κs. tt)
-    (λ c. record { sfits = omega (arith, few (c .before .before .before .before .before .before .before .before .before .before .before .before .before)) })
+    (λ c κs. let n = c .before .before .before .before .before .before .before .before in (some n, few n)) (λ c κs. tt)
+    (λ c. record { sfits = omega (arith, few (c .before .before .before .before .before .before .before .before .before .before .before .before)) })
     (λ c κs. tt) (λ c. record { sfits = omega (arith, short c) }) returns)

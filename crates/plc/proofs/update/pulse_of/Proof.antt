@@ -1,8 +1,6 @@
-use Prim.Native.Nat.{_*_}
-use native.Mathlib.Omega.{arith}
 use borrow.Author.Needs.{needs}
 use mir.Syntax.{w16, w32}
-use mir.Facts.{toZ-ofZ, toZ-pos}
+use mir.Facts.{toZ-ofZ}
 use Rattle.word.proofs.Words.{kept}
 use Rattle.stability.proofs.Steps.{got}
 use Rattle.plc.specs.Update.{pulseOf}
@@ -23,12 +21,15 @@ returns c =
       kept w32 (b .result .pitch) (c .struct-told2 .given .1 .0 .1),
       b .ensures,
       toZ-ofZ (i .before .fits .pitch),
+      toZ-ofZ (i .before .fits .khz),
     )
 
 returns-2 : tie.Need-returns-2
 unfolding pulseOf
-returns-2 c = rw (c .if1 .left, toZ-pos w32 {n = 4608 * c .before .args .rate} (omega arith))
+returns-2 c =
+    let i = c .before in
+    rw (i .if1 .left, got w32 (c .pitch-max-q8 .ok) (c .pitch-max-q8 .ensures), toZ-ofZ (i .before .fits .khz))
 
 pub pulse-of-spec : {M : Type 1} → statement M
 pulse-of-spec =
-    tie.close (tie.spec (λ c κs. search needs) (λ c κs. tt) returns (λ c. search needs) (λ c. search needs) returns-2)
+    tie.close (tie.spec (λ c κs. search needs) (λ c κs. tt) returns (λ c κs. tt) returns-2)
