@@ -149,9 +149,12 @@ fn length_row(lent: usize, n: usize) -> bool
 fn state_rows(s: SilkDecoderState, other: Refusal) -> Refusal
     ensures { λ r. ⌜ r ≡ firstOr (stateRows s) other ⌝ }
 {
-    let history = first(history_row(s), Refusal::History, other);
-    let size = first(size_row(s), Refusal::Size, history);
-    first(rate_row(s), Refusal::Rate, size)
+    let rate = rate_row(s);
+    let size = size_row(s);
+    let history = history_row(s);
+    let from_3 = first(history, Refusal::History, other);
+    let from_2 = first(size, Refusal::Size, from_3);
+    first(rate, Refusal::Rate, from_2)
 }
 
 // Rows 5 to 8, and what is after them.
@@ -164,10 +167,14 @@ fn param_rows(
 ) -> Refusal
     ensures { λ r. ⌜ r ≡ firstOr (paramRows (shape «fs_khz» «nb_subfr») q c) other ⌝ }
 {
-    let taps = first(taps_row(nb_subfr, q, c), Refusal::Taps, other);
-    let lag = first(lag_row(fs_khz, nb_subfr, q, c), Refusal::Lag, taps);
-    let gain = first(gain_row(nb_subfr, c), Refusal::Gain, lag);
-    first(signal_row(q), Refusal::Signal, gain)
+    let signal = signal_row(q);
+    let gain = gain_row(nb_subfr, c);
+    let lag = lag_row(fs_khz, nb_subfr, q, c);
+    let taps = taps_row(nb_subfr, q, c);
+    let from_8 = first(taps, Refusal::Taps, other);
+    let from_7 = first(lag, Refusal::Lag, from_8);
+    let from_6 = first(gain, Refusal::Gain, from_7);
+    first(signal, Refusal::Signal, from_6)
 }
 
 // Rows 10 and 11.

@@ -210,8 +210,8 @@ pub extern "C" fn post_glue(
     let s = state_in(words, halves);
     let a = silk_plc_glue_frames(s, buffer, n);
     let refusal = a.refusal;
-    let t = a.state;
-    keep_state(refusal, t, words, halves);
+    let glued = a.state;
+    keep_state(refusal, glued, words, halves);
     code(refusal)
 }
 
@@ -237,8 +237,8 @@ pub extern "C" fn post_noise(
     let c = control_in(control, taps);
     let a = silk_cng(s, c, buffer, n);
     let refusal = a.refusal;
-    let t = a.state;
-    keep_state(refusal, t, words, halves);
+    let noised = a.state;
+    keep_state(refusal, noised, words, halves);
     code(refusal)
 }
 
@@ -265,10 +265,10 @@ pub extern "C" fn post_plc_lost(
     let c = control_in(control, taps);
     let a = silk_plc_lost(s, c, output);
     let refusal = a.refusal;
-    let t = a.state;
-    let d = a.control;
-    keep_state(refusal, t, words, halves);
-    keep_control(refusal, d, control, taps);
+    let concealed = a.state;
+    let concealed_control = a.control;
+    keep_state(refusal, concealed, words, halves);
+    keep_control(refusal, concealed_control, control, taps);
     code(refusal)
 }
 
@@ -304,8 +304,8 @@ pub extern "C" fn post_plc_received(
     let coefs = rows_in(rows);
     let a = silk_plc_received(s, q, c, coefs);
     let refusal = a.refusal;
-    let t = a.state;
-    keep_state(refusal, t, words, halves);
+    let updated = a.state;
+    keep_state(refusal, updated, words, halves);
     code(refusal)
 }
 
@@ -346,10 +346,10 @@ pub extern "C" fn post_core(
     let coefs = rows_in(rows);
     let a = silk_decode_core(s, q, c, coefs, pulses, output);
     let refusal = a.refusal;
-    let t = a.state;
-    let d = a.control;
-    keep_state(refusal, t, words, halves);
-    keep_control(refusal, d, control, taps);
+    let decoded = a.state;
+    let decoded_control = a.control;
+    keep_state(refusal, decoded, words, halves);
+    keep_control(refusal, decoded_control, control, taps);
     code(refusal)
 }
 
@@ -376,10 +376,10 @@ pub extern "C" fn post_lost(
     let c = control_in(control, taps);
     let a = lost_frame(s, c, output);
     let refusal = a.refusal;
-    let t = a.state;
-    let d = a.control;
-    keep_state(refusal, t, words, halves);
-    keep_control(refusal, d, control, taps);
+    let lost = a.state;
+    let lost_control = a.control;
+    keep_state(refusal, lost, words, halves);
+    keep_control(refusal, lost_control, control, taps);
     code(refusal)
 }
 
@@ -423,9 +423,9 @@ pub extern "C" fn post_received(
     let nlsf = part16_16(lines, 0);
     let a = received_frame(s, q, c, coefs, nlsf, pulses, output);
     let refusal = a.refusal;
-    let t = a.state;
-    let d = a.control;
-    keep_state(refusal, t, words, halves);
-    keep_control(refusal, d, control, taps);
+    let received = a.state;
+    let received_control = a.control;
+    keep_state(refusal, received, words, halves);
+    keep_control(refusal, received_control, control, taps);
     code(refusal)
 }

@@ -6,19 +6,17 @@ use Rattle.judge.proofs.param_rows.Tie as tie
 returns : tie.Need-returns
 unfolding firstOr
 returns c =
-    let g = c .before .before in
-    let l = g .before .before in
-    let t = l .before .before in
-    let s = t .before .before in
+    let r = c .before .before .before .before in
+    let s = r .before .before .before .before in
     rw (
       c .first4 .ensures,
-      c .before .signal-row .ensures,
-      g .first3 .ensures,
-      g .before .gain-row .ensures,
-      l .first2 .ensures,
-      l .before .lag-row .ensures,
-      t .first .ensures,
-      t .before .taps-row .ensures,
+      c .before .first3 .ensures,
+      c .before .before .first2 .ensures,
+      c .before .before .before .first .ensures,
+      r .taps-row .ensures,
+      r .before .lag-row .ensures,
+      r .before .before .gain-row .ensures,
+      r .before .before .before .signal-row .ensures,
       toZ-ofZ (s .fits .fs-khz),
       toZ-ofZ (s .fits .nb-subfr),
     )

@@ -5,15 +5,14 @@ use Rattle.judge.proofs.state_rows.Tie as tie
 returns : tie.Need-returns
 unfolding firstOr
 returns c =
-    let b = c .before .before in
-    let a = b .before .before in
+    let r = c .before .before .before in
     rw (
       c .first3 .ensures,
-      c .before .rate-row .ensures,
-      b .first2 .ensures,
-      b .before .size-row .ensures,
-      a .first .ensures,
-      a .before .history-row .ensures,
+      c .before .first2 .ensures,
+      c .before .before .first .ensures,
+      r .history-row .ensures,
+      r .before .size-row .ensures,
+      r .before .before .rate-row .ensures,
     )
 
 pub state-rows-spec : {M : Type 1} → statement M
