@@ -4,6 +4,5 @@ pub mod Places
 pub mod Signals
 pub mod Lines
 pub mod Cases
-pub mod Bench
 pub mod Toward
 pub mod Kept

@@ -4,4 +4,3 @@ pub mod Finishing
 pub mod Heard
 pub mod Kept
 pub mod Noised
-pub mod Bench

@@ -4,15 +4,12 @@ use mathlib.Core.Path.{_≡_}
 use mathlib.Core.List.{List, []}
 use lib.IntN.{ℤ, pos}
 use lib.ListN.{getD, length}
-use mir.Syntax.{Width, w8, w16, w32}
+use mir.Syntax.{Width, w16, w32}
 use mir.Val.{SFits}
 use Rattle.decoder.specs.declared.SilkCNGState.{SilkCNGState}
 use Rattle.decoder.specs.declared.SilkPLCState.{SilkPLCState}
 use Rattle.decoder.specs.declared.SilkDecoderState.{SilkDecoderState}
 use Rattle.decoder.specs.declared.SilkDecoderControl.{SilkDecoderControl}
-use Rattle.decoder.specs.declared.Params.{Params}
-use Rattle.decoder.specs.declared.Frame.{Frame}
-use Rattle.decoder.specs.declared.Frame.the-variants.{Received, Lost}
 
 -- n numbers, each of a width
 pub record Words (w : Width) (n : ℕ) (xs : List ℤ) : Type 0 where
@@ -66,15 +63,6 @@ pub record TypedControl (c : SilkDecoderControl) : Type 0 where
   pub «gains_q16» : Words w32 4 (c .«gains_q16»)
   pub «ltp_coef_q14» : Words w16 20 (c .«ltp_coef_q14»)
   pub «ltp_scale_q14» : SFits w32 (c .«ltp_scale_q14»)
-
-pub record TypedParams (q : Params) : Type 0 where
-  pub «quant_offset_type» : SFits w8 (q .«quant_offset_type»)
-  pub «nlsf_interp_coef_q2» : SFits w8 (q .«nlsf_interp_coef_q2»)
-  pub seed : SFits w8 (q .seed)
-
-abbrev pub TypedFrame : Frame → Type 0
-TypedFrame (Received q) = TypedParams q
-TypedFrame Lost = Unit {0}
 
 -- two rows of 16 coefficients
 pub record TypedRows (rows : List (List ℤ)) : Type 0 where

@@ -1,4 +1,3 @@
 -- The laws of this crate.
 pub mod Samples
-pub mod Bench
 pub mod Standard

@@ -10,6 +10,7 @@ use lib.ListN.{drop}
 use lib.Seq.{getD-take, getD-drop}
 use Rattle.word.specs.Size.{Bounded}
 use Rattle.refusal.specs.Refusals.{refusalNumber}
+use Rattle.sigproc.proofs.Places.{part-take}
 use Rattle.shape.specs.Shape.{Shape, frameLength, memLength}
 use Rattle.decoder.specs.State.{shapeOf}
 use Rattle.decoder.specs.SetUp.{setUp}
@@ -23,7 +24,7 @@ use Rattle.lists.specs.Lists.{Call as FrameCall, refusalOf, stateAfter, countAf
 use Rattle.lists.specs.Claims.{Every, none, then, NotForState, TypedCall}
 use Rattle.lists.proofs.Keeps.{newState, keeps, every-map}
 use Rattle.lists.proofs.History.{not-refused, set-up-shaped}
-use Rattle.lists.proofs.Lost.{lost-shape, part-take, last-frame}
+use Rattle.lists.proofs.Lost.{lost-shape, last-frame}
 use Rattle.lists.proofs.Losses.{Counts, counts-after, set-up-counts}
 use Rattle.lists.proofs.Loud.{Quietens, fresh, quietens-after, lost-state, place-quiet}
 use Rattle.layout.specs.Layout.{part, one, stateIn, plcIn}

@@ -5,4 +5,3 @@ pub mod Normal
 pub mod Ranges
 pub mod Scalars
 pub mod Inverse
-pub mod Bench

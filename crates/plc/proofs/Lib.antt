@@ -1,7 +1,6 @@
 -- The laws of this crate.
 pub mod Numbers
 pub mod Noise
-pub mod Taps
 pub mod Tap
 pub mod Updated
 pub mod Gain
@@ -11,7 +10,6 @@ pub mod Excite
 pub mod Pitch
 pub mod Synthesis
 pub mod Ready
-pub mod Bench
 pub mod Fading
 pub mod Drift
 pub mod Types

@@ -1,13 +1,20 @@
 -- Lists stored into a place of another, and the history of played samples.
-use Prim.Native.Nat.{ℕ, _+_, _-_, _≤_}
-use mathlib.Core.Path.{_≡_, sym, ap, _∙_}
-use mathlib.Core.List.{List, _++_, append-nil}
+use Prim.Native.Nat.{ℕ, zero, suc, _+_, _-_, _≤_}
+use mathlib.Core.Path.{_≡_, refl, sym, ap, _∙_}
+use mathlib.Core.List.{List, [], _∷_, _++_, append-nil}
 use native.Mathlib.Omega.{arith}
 use native.Mathlib.Nat.{zero-add}
 use lib.ListN.{length, take, drop, length-append, length-take, length-drop, drop-of-length-le}
-use lib.Seq.{take-append-seam, drop-append-add, drop-drop, drop-length, take-all, take-at, take-add, drop-at, take-append-le, length-take-le}
+use lib.Seq.{take-append-seam, drop-append-add, drop-drop, drop-length, take-nil, take-take, take-all, take-at, take-add, drop-at, take-append-le, length-take-le}
 use lib.IntN.{ℤ}
 use Rattle.sigproc.specs.Place.{putAt, rotateLeft, updateOutBuf}
+
+-- a part of the front
+pub part-take : (xs : List ℤ) (m a n : ℕ) → a + n ≤ m → take n (drop a (take m xs)) ≡ take n (drop a xs)
+part-take [] m a n h = ap (λ (ys : List ℤ). take n (drop a ys)) (take-nil m)
+part-take (x ∷ xs) zero a n h = let e : n ≡ 0 = omega arith in rw e refl
+part-take (x ∷ xs) (suc m) zero n h = take-take n (suc m) (x ∷ xs) (omega arith)
+part-take (x ∷ xs) (suc m) (suc a) n h = part-take xs m a n (omega arith)
 
 pub length-putAt : (d : List ℤ) (at : ℕ) (s : List ℤ) → at + length s ≤ length d → length (putAt d at s) ≡ length d
 unfolding putAt
