@@ -28,6 +28,7 @@ use Rattle.decoder.specs.declared.SilkCNGState.{SilkCNGState}
 use Rattle.decoder.specs.declared.SilkDecoderState.{SilkDecoderState}
 use Rattle.decoder.proofs.Between.{AllBetween}
 use Rattle.decoder.proofs.Bounds.{CngHeldBounds, CngBounds, cng-fits}
+use Rattle.decoder.proofs.Built.{typed-build}
 use Rattle.decoder.proofs.Types.{AllFit, zero-fits, nil-fits, cons-fits, append-fits, drop-fits, append-words, take-words, drop-words, zeros-words}
 use Rattle.cng.specs.Noise.{flatLine, cngReset, cngReady, smoothedLine, smoothedLines, nextGain, smoothedGain, movedIn, tracked, seedAt, noiseSignal, silenced, sounded, addedTo, withNoise, comfortNoise}
 use Rattle.cng.proofs.Numbers.{flat-le}
@@ -203,25 +204,8 @@ sounded-typed d n h t =
 
 with-typed : (s : SilkDecoderState) (h : SilkCNGState) → Typed s → TypedCng h → Typed (withNoise s h)
 with-typed s h t c =
-    record {
-      «prev_gain_q16» = t .«prev_gain_q16»;
-      «exc_q14» = t .«exc_q14»;
-      «s_lpc_q14_buf» = t .«s_lpc_q14_buf»;
-      «out_buf» = t .«out_buf»;
-      «lag_prev» = t .«lag_prev»;
-      «fs_khz» = t .«fs_khz»;
-      «nb_subfr» = t .«nb_subfr»;
-      «frame_length» = t .«frame_length»;
-      «subfr_length» = t .«subfr_length»;
-      «ltp_mem_length» = t .«ltp_mem_length»;
-      «lpc_order» = t .«lpc_order»;
-      «prev_nlsf_q15» = t .«prev_nlsf_q15»;
-      «first_frame_after_reset» = t .«first_frame_after_reset»;
-      «s_cng» = c;
-      «loss_cnt» = t .«loss_cnt»;
-      «prev_signal_type» = t .«prev_signal_type»;
-      «s_plc» = t .«s_plc»;
-    }
+    typed-build t (t .«prev_gain_q16») (t .«exc_q14») (t .«s_lpc_q14_buf») (t .«out_buf») (t .«lag_prev») (t .«prev_nlsf_q15»)
+    (t .«first_frame_after_reset») c (t .«loss_cnt») (t .«prev_signal_type») (t .«s_plc»)
 
 pub comfort-typed : (s : SilkDecoderState) (gains : List ℤ) (n : ℕ) (frame : List ℤ) → Shaped (rateOf (s .«fs_khz»)) (countOf (s .«nb_subfr»))
     → AllFit w32 gains → Typed s → Typed (comfortNoise (shapeOf s) s gains n frame .state)

@@ -11,7 +11,7 @@ use lib.Signed.{ltZ}
 use mir.Syntax.{w16, w32}
 use mir.Val.{ofZ, SFits}
 use Rattle.word.specs.Int.{eqℤ, maxℤ}
-use Rattle.stability.proofs.Steps.{eq-words}
+use Rattle.word.proofs.Words.{eq-words}
 
 pub same-number : (n : ℕ) (z : ℤ) → n < 2 ^ 31 → SFits w32 z → n ≡ ofZ w32 z → eqℤ (pos n) z ≡ true
 same-number n z h f e = sym (eq-words w32 (pos n) z (record { sfits = h }) f) ∙ eq-eqb n (ofZ w32 z) e

@@ -49,7 +49,8 @@ pub struct Text {
     pub len: usize,
 }
 
-const WORDS: [[u8; 8]; 14] = [
+// The words by number, empty at a number that no row has.
+const WORDS: [[u8; 8]; 24] = [
     *b"\0\0\0\0\0\0\0\0",
     *b"rate\0\0\0\0",
     *b"size\0\0\0\0",
@@ -64,9 +65,44 @@ const WORDS: [[u8; 8]; 14] = [
     *b"speaker\0",
     *b"length\0\0",
     *b"order\0\0\0",
+    *b"\0\0\0\0\0\0\0\0",
+    *b"\0\0\0\0\0\0\0\0",
+    *b"\0\0\0\0\0\0\0\0",
+    *b"\0\0\0\0\0\0\0\0",
+    *b"\0\0\0\0\0\0\0\0",
+    *b"\0\0\0\0\0\0\0\0",
+    *b"\0\0\0\0\0\0\0\0",
+    *b"\0\0\0\0\0\0\0\0",
+    *b"\0\0\0\0\0\0\0\0",
+    *b"\0\0\0\0\0\0\0\0",
 ];
 
-const LENGTHS: [usize; 14] = [0, 4, 4, 7, 8, 6, 4, 3, 4, 4, 6, 7, 6, 5];
+const LENGTHS: [usize; 24] = [
+    0,
+    4,
+    4,
+    7,
+    8,
+    6,
+    4,
+    3,
+    4,
+    4,
+    6,
+    7,
+    6,
+    5,
+    0,
+    0,
+    0,
+    0,
+    0,
+    0,
+    0,
+    0,
+    0,
+    0,
+];
 
 // Document 01's word, empty where nothing is refused.
 pub fn word(r: Refusal) -> Text

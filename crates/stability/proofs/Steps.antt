@@ -1,43 +1,26 @@
 -- The numbers of a step.
-use Prim.Native.Nat.{ℕ, zero, suc, _+_, _-_, _^_, _<_, _≤_}
+use Prim.Native.Nat.{ℕ, zero, suc, _+_, _-_, _≤_}
 use mathlib.Core.Path.{_≡_, refl, sym, ap, _∙_}
 use mathlib.Core.Bool.{Bool, true, false, _&&_, and-true, and-assoc}
 use mathlib.Core.List.{List, [], _∷_, _++_, map, map-append}
 use native.Mathlib.Omega.{arith}
-use borrow.Author.Tests.{eqb-true, eqb-false, lt-ltb, le-ltb, ltb-true, ltb-false}
-use lib.Dec.{eqb, ltb}
+use borrow.Author.Tests.{lt-ltb, le-ltb, ltb-true, ltb-false}
+use lib.Dec.{ltb}
 use lib.IntN.{ℤ, pos, negsuc, natAbs, _+ℤ_, _-ℤ_}
-use lib.Signed.{mag, ltZ}
-use mir.Syntax.{Width, w32}
-use mir.Val.{SFits, hbits, toZ, ofZ}
-use mir.Facts.{toZ-ofZ}
-use Rattle.word.specs.Int.{wrap32, eqℤ}
+use lib.Signed.{ltZ}
+use mir.Syntax.{w32}
+use Rattle.word.specs.Int.{wrap32}
 use Rattle.word.specs.Tabulate.{tabulate}
 use Rattle.word.proofs.Parts.{eq-parts, sub-parts-ℤ}
-use Rattle.word.proofs.Words.{kept, wrap-id}
+use Rattle.word.proofs.Words.{wrap-id}
 use Rattle.stability.specs.Stability.{bitLength, fits32, allFit}
-use Rattle.word.proofs.Order.{eqℤ-refl, eqℤ-ne}
 use Rattle.word.proofs.Sizes.{abs-fits}
-
--- what a call gave, read back from its bits
-pub got : (w : Width) {z v : ℤ} → mag z < 2 ^ hbits w → z ≡ v → toZ w (ofZ w z) ≡ v
-got w {z} h e = kept w z h ∙ e
 
 -- the bits that leading zeros leave of 32
 pub bits-left : (n : ℕ) → n ≤ 32 → wrap32 (pos 32 -ℤ pos n) ≡ pos (32 - n)
 bits-left n h =
     let e : pos 32 -ℤ pos n ≡ pos (32 - n) = eq-parts (pos 32 -ℤ pos n) (pos (32 - n)) (omega (arith, sub-parts-ℤ (pos 32) (pos n))) in
     rw e (wrap-id {w = w32} {z = pos (32 - n)} (abs-fits (pos (32 - n)) (omega arith)))
-
--- equal bits are equal numbers
-pub eq-words : (w : Width) (a b : ℤ) → SFits w a → SFits w b → eqb (ofZ w a) (ofZ w b) ≡ eqℤ a b
-eq-words w a b h k = go (eqb (ofZ w a) (ofZ w b)) refl
-  where
-    go : (t : Bool) → eqb (ofZ w a) (ofZ w b) ≡ t → t ≡ eqℤ a b
-    go true e =
-        let p : a ≡ b = sym (toZ-ofZ h) ∙ ap (toZ w) (eqb-true (ofZ w a) (ofZ w b) e) ∙ toZ-ofZ k in
-        rw p (sym (eqℤ-refl b))
-    go false e = sym (eqℤ-ne a b (λ p. eqb-false (ofZ w a) (ofZ w b) e (ap (ofZ w) p)))
 
 -- a few places more
 pub more-places : (n : ℕ) → n ≤ 32 → wrap32 (pos n +ℤ pos 30) ≡ pos (n + 30)

@@ -4,10 +4,10 @@ use mathlib.Core.Path.{_≡_, refl, sym, ap, _∙_, subst}
 use mathlib.Core.Bool.{Bool, true, false}
 use native.Mathlib.Omega.{arith}
 use native.Mathlib.Nat.{mod-eq-of-lt, mul-mod-left, mul-le-mul-right, lt-of-lt-of-le}
-use borrow.Author.Tests.{lt-ltb, le-ltb, ltb-true, ltb-false}
+use borrow.Author.Tests.{lt-ltb, le-ltb, ltb-true, ltb-false, eqb-true, eqb-false}
 use lib.Arith.{comp-comp}
 use lib.Bits.{bitAnd, and-mask}
-use lib.Dec.{T, ltb, leb, leb→le, le→leb}
+use lib.Dec.{T, eqb, ltb, leb, leb→le, le→leb}
 use lib.IntN.{ℤ, pos, negsuc, negℤ, _+ℤ_, _-ℤ_, _*ℤ_, +ℤ-comm, *ℤ-comm}
 use lib.Pow.{pow-pos, pow-mono, pow-add, shl-lt, shl-shr, shr-lt, split, high, low, mod-pow-add, mod-mod-pow}
 use lib.Signed.{mag, shrZ}
@@ -15,13 +15,18 @@ use mir.Syntax.{Width, w32, w64}
 use mir.Val.{bits, toZ, ofZ, SFits, hbits}
 use mir.ValLaws.{half-full, bits-suc}
 use mir.Facts.{toZ-pos, toZ-ofZ, sfits-toZ, sfits-widen}
-use Rattle.word.specs.Int.{modℤ, floorDiv, wrap}
+use Rattle.word.specs.Int.{eqℤ, modℤ, floorDiv, wrap}
 use Rattle.word.proofs.Mod.{modℤ-lt, mod-add-l, mod-mul-l}
 use Rattle.word.proofs.Range.{floorDiv-fits}
+use Rattle.word.proofs.Order.{eqℤ-refl, eqℤ-ne}
 
 -- ---- a value read back from its bits
 pub kept : (w : Width) (z : ℤ) → mag z < 2 ^ hbits w → toZ w (ofZ w z) ≡ z
 kept w z h = toZ-ofZ (record { sfits = h })
+
+-- what a call gave, read back from its bits
+pub got : (w : Width) {z v : ℤ} → mag z < 2 ^ hbits w → z ≡ v → toZ w (ofZ w z) ≡ v
+got w {z} h e = kept w z h ∙ e
 
 -- x, which is y and fits
 pub back : {w : Width} {x y : ℤ} → SFits w y → x ≡ y → toZ w (ofZ w x) ≡ y
@@ -30,6 +35,16 @@ back h p = rw p (toZ-ofZ h)
 -- and it fits another word if y does
 pub back-fits : {w w′ : Width} {x y : ℤ} → SFits w y → SFits w′ y → x ≡ y → SFits w′ (toZ w (ofZ w x))
 back-fits h k p = rw (back h p) k
+
+-- equal bits are equal numbers
+pub eq-words : (w : Width) (a b : ℤ) → SFits w a → SFits w b → eqb (ofZ w a) (ofZ w b) ≡ eqℤ a b
+eq-words w a b h k = go (eqb (ofZ w a) (ofZ w b)) refl
+  where
+    go : (t : Bool) → eqb (ofZ w a) (ofZ w b) ≡ t → t ≡ eqℤ a b
+    go true e =
+        let p : a ≡ b = sym (toZ-ofZ h) ∙ ap (toZ w) (eqb-true (ofZ w a) (ofZ w b) e) ∙ toZ-ofZ k in
+        rw p (sym (eqℤ-refl b))
+    go false e = sym (eqℤ-ne a b (λ p. eqb-false (ofZ w a) (ofZ w b) e (ap (ofZ w) p)))
 
 -- a number in a wider word
 pub wide-back : (w w′ : Width) {z : ℤ} → T (leb (hbits w) (hbits w′)) → SFits w z → toZ w′ (ofZ w′ (toZ w (ofZ w z))) ≡ z

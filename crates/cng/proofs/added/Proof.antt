@@ -11,10 +11,9 @@ use mir.Facts.{toZ-ofZ}
 use Rattle.word.specs.Int.{sat16}
 use Rattle.word.specs.Tabulate.{tabulate}
 use Rattle.word.proofs.Lists.{length-tabulate}
-use Rattle.word.proofs.Words.{kept}
+use Rattle.word.proofs.Words.{kept, got}
 use Rattle.sigproc.specs.Synthesis.{playedQ10, played}
 use Rattle.sigproc.proofs.Fill.{turn, filled}
-use Rattle.stability.proofs.Steps.{got}
 use Rattle.nlsf.proofs.Parts.{rest-at}
 use Rattle.cng.proofs.added.Statement.{statement}
 use Rattle.cng.proofs.added.Tie as tie

@@ -5,7 +5,7 @@ use mir.Syntax.{w32}
 use mir.Facts.{toZ-ofZ}
 use Rattle.word.specs.Int.{floorDiv}
 use Rattle.word.proofs.Range.{floorDiv-fits}
-use Rattle.stability.proofs.Steps.{got}
+use Rattle.word.proofs.Words.{got}
 use Rattle.cng.proofs.Numbers.{masked}
 use Rattle.cng.proofs.draw.Statement.{statement}
 use Rattle.cng.proofs.draw.Tie as tie

@@ -12,9 +12,8 @@ use mir.Val.{toZ, ofZ}
 use mir.Facts.{toZ-ofZ}
 use Rattle.word.specs.Int.{floorDiv, modℤ}
 use Rattle.word.specs.Tabulate.{tabulate}
-use Rattle.word.proofs.Words.{kept}
+use Rattle.word.proofs.Words.{kept, got}
 use Rattle.sigproc.proofs.Fill.{turn, filled}
-use Rattle.stability.proofs.Steps.{got}
 use Rattle.cng.specs.Noise.{seedAt, drawn}
 use Rattle.cng.proofs.drawn.Statement.{statement}
 use Rattle.cng.proofs.drawn.Tie as tie

@@ -8,7 +8,7 @@ use lib.ListN.{length, drop}
 use mir.Syntax.{w16}
 use Rattle.word.specs.Tabulate.{tabulate}
 use Rattle.word.proofs.Lists.{tabulate-more}
-use Rattle.stability.proofs.Steps.{got}
+use Rattle.word.proofs.Words.{got}
 use Rattle.cng.specs.Noise.{flatLine}
 use Rattle.cng.proofs.flat_lines.Statement.{statement}
 use Rattle.cng.proofs.flat_lines.Tie as tie

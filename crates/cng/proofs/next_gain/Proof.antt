@@ -6,8 +6,8 @@ use mir.Syntax.{w32}
 use mir.Val.{toZ, ofZ}
 use mir.Facts.{toZ-ofZ}
 use Rattle.word.specs.Int.{wrap32}
+use Rattle.word.proofs.Words.{got}
 use Rattle.macros.specs.Fixed.{smulwb, smulww}
-use Rattle.stability.proofs.Steps.{got}
 use Rattle.cng.specs.Noise.{nextGain}
 use Rattle.cng.proofs.next_gain.Statement.{statement}
 use Rattle.cng.proofs.next_gain.Tie as tie

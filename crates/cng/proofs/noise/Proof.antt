@@ -7,8 +7,7 @@ use lib.ListN.{length, take, drop, length-append, length-drop, length-take}
 use lib.Seq.{length-take-le}
 use mir.Syntax.{w32}
 use mir.Facts.{toZ-ofZ}
-use Rattle.word.proofs.Words.{kept}
-use Rattle.stability.proofs.Steps.{got}
+use Rattle.word.proofs.Words.{kept, got}
 use Rattle.cng.specs.Noise.{noiseSignal, seedAt, sounded}
 use Rattle.cng.proofs.Signals.{noise-length, new-memory, sum}
 use Rattle.cng.proofs.noise.Statement.{statement}

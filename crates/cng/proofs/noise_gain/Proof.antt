@@ -6,8 +6,8 @@ use lib.Signed.{leZ, ltZ}
 use mir.Syntax.{w32}
 use mir.Val.{toZ, ofZ}
 use mir.Facts.{toZ-ofZ}
+use Rattle.word.proofs.Words.{got}
 use Rattle.macros.specs.Fixed.{smulww}
-use Rattle.stability.proofs.Steps.{got}
 use Rattle.cng.specs.Noise.{noiseGain}
 use Rattle.cng.proofs.noise_gain.Statement.{statement}
 use Rattle.cng.proofs.noise_gain.Tie as tie

@@ -8,8 +8,7 @@ use lib.IntN.{pos}
 use lib.ListN.{length, take, drop, replicate, length-drop}
 use lib.Seq.{length-take-le}
 use mir.Syntax.{w32}
-use Rattle.word.proofs.Words.{kept}
-use Rattle.stability.proofs.Steps.{got}
+use Rattle.word.proofs.Words.{kept, got}
 use Rattle.nlsf.specs.Filter.{nlsf2a}
 use Rattle.nlsf.proofs.Results.{length-nlsf2a}
 use Rattle.cng.specs.Noise.{excMask, drawn, noiseSignal}

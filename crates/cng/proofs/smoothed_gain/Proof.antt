@@ -8,8 +8,7 @@ use lib.ListN.{getD}
 use mir.Syntax.{w32}
 use mir.Val.{toZ}
 use mir.Facts.{toZ-ofZ}
-use Rattle.word.proofs.Words.{kept}
-use Rattle.stability.proofs.Steps.{got}
+use Rattle.word.proofs.Words.{kept, got}
 use Rattle.cng.specs.Noise.{smoothedGain}
 use Rattle.cng.proofs.smoothed_gain.Statement.{statement}
 use Rattle.cng.proofs.smoothed_gain.Tie as tie

@@ -1,6 +1,6 @@
 use mir.Syntax.{w16, w32}
 use mir.Facts.{toZ-ofZ}
-use Rattle.stability.proofs.Steps.{got}
+use Rattle.word.proofs.Words.{got}
 use Rattle.cng.specs.Noise.{smoothedLine}
 use Rattle.cng.proofs.Numbers.{short, difference}
 use Rattle.cng.proofs.smoothed_line.Statement.{statement}

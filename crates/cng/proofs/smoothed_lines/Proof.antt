@@ -9,8 +9,7 @@ use lib.ListN.{length, getD, drop}
 use mir.Syntax.{w16}
 use Rattle.word.specs.Tabulate.{tabulate}
 use Rattle.word.proofs.Lists.{tabulate-more}
-use Rattle.word.proofs.Words.{kept}
-use Rattle.stability.proofs.Steps.{got}
+use Rattle.word.proofs.Words.{kept, got}
 use Rattle.cng.specs.Noise.{smoothedLine, smoothedLines}
 use Rattle.cng.proofs.smoothed_lines.Statement.{statement}
 use Rattle.cng.proofs.smoothed_lines.Tie as tie

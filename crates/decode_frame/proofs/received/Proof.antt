@@ -9,8 +9,7 @@ use mathlib.Core.List.{List, _++_}
 use Rattle.word.specs.Int.{eqℤ}
 use mir.Syntax.{w32}
 use mir.Val.{toZ, ofZ}
-use Rattle.word.proofs.Words.{kept}
-use Rattle.stability.proofs.Steps.{got}
+use Rattle.word.proofs.Words.{kept, got}
 use Rattle.sigproc.specs.Place.{updateOutBuf}
 use Rattle.shape.specs.Shape.{shape, isRate, isCount, rateOf, countOf, frameLength, memLength, lpcOrder}
 use Rattle.shape.proofs.Shapes.{Shaped, shaped, counts, count-range, order-le, frame-le}

@@ -5,7 +5,7 @@ use borrow.Author.Needs.{needs}
 use lib.IntN.{natAbs}
 use mir.Syntax.{w32}
 use mir.Facts.{toZ-ofZ, fits-natAbs}
-use Rattle.stability.proofs.Steps.{got}
+use Rattle.word.proofs.Words.{got}
 use Rattle.nlsf.proofs.Chirps.{above}
 use Rattle.nlsf.proofs.chirp_of.Statement.{statement}
 use Rattle.nlsf.proofs.chirp_of.Tie as tie

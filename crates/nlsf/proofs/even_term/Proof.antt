@@ -3,8 +3,7 @@ use borrow.Author.Needs.{needs}
 use lib.IntN.{pos}
 use lib.ListN.{getD}
 use mir.Syntax.{w32}
-use Rattle.word.proofs.Words.{kept}
-use Rattle.stability.proofs.Steps.{got}
+use Rattle.word.proofs.Words.{kept, got}
 use Rattle.nlsf.specs.Lines.{evenTerm}
 use Rattle.nlsf.proofs.even_term.Statement.{statement}
 use Rattle.nlsf.proofs.even_term.Tie as tie

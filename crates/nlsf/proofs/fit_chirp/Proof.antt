@@ -4,8 +4,7 @@ use native.Mathlib.Omega.{arith}
 use borrow.Author.Needs.{needs}
 use lib.IntN.{pos}
 use mir.Syntax.{w32}
-use Rattle.word.proofs.Words.{kept}
-use Rattle.stability.proofs.Steps.{got}
+use Rattle.word.proofs.Words.{kept, got}
 use Rattle.nlsf.specs.Fit.{fitChirp}
 use Rattle.nlsf.proofs.Chirps.{den-le, quotient-le, chirp-kept}
 use Rattle.nlsf.proofs.fit_chirp.Statement.{statement}

@@ -1,7 +1,7 @@
 use borrow.Author.Needs.{needs}
 use mir.Syntax.{w32}
 use mir.Facts.{toZ-ofZ}
-use Rattle.stability.proofs.Steps.{got}
+use Rattle.word.proofs.Words.{got}
 use Rattle.nlsf.specs.Fit.{inQ12}
 use Rattle.nlsf.proofs.in_q12.Statement.{statement}
 use Rattle.nlsf.proofs.in_q12.Tie as tie

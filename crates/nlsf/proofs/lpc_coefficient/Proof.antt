@@ -2,8 +2,7 @@ use borrow.Author.Needs.{needs}
 use borrow.Author.Tests.{lt-ltb, le-ltb}
 use lib.IntN.{_+ℤ_}
 use mir.Syntax.{w32}
-use Rattle.word.proofs.Words.{wrap-neg}
-use Rattle.stability.proofs.Steps.{got}
+use Rattle.word.proofs.Words.{wrap-neg, got}
 use Rattle.nlsf.specs.Lines.{evenTerm, oddTerm, lpcCoefficient}
 use Rattle.nlsf.proofs.lpc_coefficient.Statement.{statement}
 use Rattle.nlsf.proofs.lpc_coefficient.Tie as tie

@@ -10,7 +10,7 @@ use lib.ListN.{length, drop, replicate}
 use mir.Syntax.{w32}
 use Rattle.word.specs.Tabulate.{tabulate}
 use Rattle.word.proofs.Lists.{tabulate-more}
-use Rattle.stability.proofs.Steps.{got}
+use Rattle.word.proofs.Words.{got}
 use Rattle.nlsf.specs.Lines.{lpcCoefficient}
 use Rattle.nlsf.proofs.lpc_coefficients.Statement.{statement}
 use Rattle.nlsf.proofs.lpc_coefficients.Tie as tie

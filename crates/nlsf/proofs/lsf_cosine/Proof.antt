@@ -3,8 +3,7 @@ use native.Mathlib.Omega.{arith}
 use borrow.Author.Needs.{needs}
 use lib.IntN.{pos}
 use mir.Syntax.{w16, w32}
-use Rattle.word.proofs.Words.{kept}
-use Rattle.stability.proofs.Steps.{got}
+use Rattle.word.proofs.Words.{kept, got}
 use Rattle.nlsf.specs.Table.{lsfCos}
 use Rattle.nlsf.specs.Lines.{lsfCosine}
 use Rattle.nlsf.proofs.Lines.{lsfCos-le, interpolated}

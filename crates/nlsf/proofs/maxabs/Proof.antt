@@ -6,8 +6,7 @@ use borrow.Author.Needs.{needs}
 use lib.IntN.{pos}
 use lib.ListN.{length, getD}
 use mir.Syntax.{w32}
-use Rattle.word.proofs.Words.{kept}
-use Rattle.stability.proofs.Steps.{got}
+use Rattle.word.proofs.Words.{kept, got}
 use Rattle.nlsf.specs.Fit.{maxabs}
 use Rattle.nlsf.proofs.maxabs.Statement.{statement}
 use Rattle.nlsf.proofs.maxabs.Tie as tie

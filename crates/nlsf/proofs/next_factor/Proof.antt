@@ -1,8 +1,7 @@
 use lib.IntN.{pos, _-ℤ_}
 use mir.Syntax.{w32}
 use mir.Facts.{toZ-ofZ}
-use Rattle.word.proofs.Words.{wrap-mul-r}
-use Rattle.stability.proofs.Steps.{got}
+use Rattle.word.proofs.Words.{wrap-mul-r, got}
 use Rattle.nlsf.specs.Expand.{nextFactor}
 use Rattle.nlsf.proofs.next_factor.Statement.{statement}
 use Rattle.nlsf.proofs.next_factor.Tie as tie

@@ -4,9 +4,8 @@ use lib.IntN.{pos, negℤ, _+ℤ_}
 use lib.ListN.{getD}
 use mir.Syntax.{w32}
 use mir.Facts.{toZ-ofZ}
-use Rattle.word.proofs.Words.{kept, wrap-add-l}
+use Rattle.word.proofs.Words.{kept, wrap-add-l, got}
 use Rattle.stability.specs.Stability.{mulQ}
-use Rattle.stability.proofs.Steps.{got}
 use Rattle.nlsf.specs.Lines.{polyTerm}
 use Rattle.nlsf.proofs.Polynomials.{term-at}
 use Rattle.nlsf.proofs.poly_term.Statement.{statement}

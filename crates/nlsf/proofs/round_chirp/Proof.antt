@@ -3,8 +3,7 @@ use native.Mathlib.Omega.{arith}
 use borrow.Author.Needs.{needs}
 use lib.IntN.{pos}
 use mir.Syntax.{w32}
-use Rattle.word.proofs.Words.{kept}
-use Rattle.stability.proofs.Steps.{got}
+use Rattle.word.proofs.Words.{kept, got}
 use Rattle.nlsf.specs.Filter.{roundChirp}
 use Rattle.nlsf.proofs.Chirps.{chirp-kept, round-shift, round-le}
 use Rattle.nlsf.proofs.round_chirp.Statement.{statement}

@@ -9,8 +9,7 @@ use lib.IntN.{ℤ, pos}
 use lib.ListN.{length, getD, take, drop}
 use mir.Syntax.{w16, w32}
 use Rattle.word.specs.Int.{wrap16}
-use Rattle.word.proofs.Words.{kept}
-use Rattle.stability.proofs.Steps.{got}
+use Rattle.word.proofs.Words.{kept, got}
 use Rattle.stability.proofs.Sums.{take-more}
 use Rattle.nlsf.specs.Fit.{inQ12, rounded}
 use Rattle.nlsf.proofs.Parts.{filled}

@@ -10,8 +10,7 @@ use lib.ListN.{length, getD, take, drop, length-map}
 use lib.Seq.{length-take-le}
 use mir.Syntax.{w16, w32}
 use Rattle.word.specs.Int.{sat16}
-use Rattle.word.proofs.Words.{kept}
-use Rattle.stability.proofs.Steps.{got}
+use Rattle.word.proofs.Words.{kept, got}
 use Rattle.stability.proofs.Sums.{take-more}
 use Rattle.nlsf.specs.Fit.{inQ12, saturated}
 use Rattle.nlsf.proofs.Parts.{rest-at, filled, scaled-kept}

@@ -12,9 +12,8 @@ use mir.Val.{toZ, ofZ}
 use mir.Facts.{toZ-ofZ}
 use Rattle.word.specs.Tabulate.{tabulate}
 use Rattle.word.proofs.Lists.{tabulate-more, length-tabulate}
-use Rattle.word.proofs.Words.{kept}
+use Rattle.word.proofs.Words.{kept, got}
 use Rattle.macros.specs.Fixed.{smulww}
-use Rattle.stability.proofs.Steps.{got}
 use Rattle.nlsf.specs.Expand.{factor32, bwexpander32}
 use Rattle.nlsf.proofs.Parts.{rest-at}
 use Rattle.nlsf.proofs.silk_bwexpander_32.Statement.{statement}

@@ -8,8 +8,7 @@ use lib.ListN.{length}
 use lib.Signed.{ltZ}
 use mir.Syntax.{w32}
 use mir.Val.{toZ, ofZ}
-use Rattle.word.proofs.Words.{kept}
-use Rattle.stability.proofs.Steps.{got}
+use Rattle.word.proofs.Words.{kept, got}
 use Rattle.nlsf.specs.Fit.{maxabs, inQ12, lpcFit}
 use Rattle.nlsf.proofs.Rounds.{length-bwexpander32, maxabs-place, fit-stops, fit-goes-on, fit-ends}
 use Rattle.nlsf.proofs.silk_lpc_fit.Statement.{statement}

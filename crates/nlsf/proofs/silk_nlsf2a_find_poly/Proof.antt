@@ -9,8 +9,7 @@ use lib.ListN.{length, getD, set, take, drop, replicate, length-set, List·getD-
 use lib.Seq.{length-take-le, length-front}
 use mir.Syntax.{w32}
 use mir.Val.{toZ, ofZ}
-use Rattle.word.proofs.Words.{kept}
-use Rattle.stability.proofs.Steps.{got}
+use Rattle.word.proofs.Words.{kept, got}
 use Rattle.nlsf.specs.Lines.{poly}
 use Rattle.nlsf.proofs.Polynomials.{length-poly, poly-turn}
 use Rattle.nlsf.proofs.silk_nlsf2a_find_poly.Statement.{statement}

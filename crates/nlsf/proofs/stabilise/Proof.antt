@@ -11,8 +11,8 @@ use lib.Seq.{take-all}
 use mir.Syntax.{w32}
 use Rattle.word.specs.Int.{eqℤ}
 use Rattle.word.proofs.Order.{is, isnt}
+use Rattle.word.proofs.Words.{got}
 use Rattle.stability.specs.Stability.{stability, inverseGain}
-use Rattle.stability.proofs.Steps.{got}
 use Rattle.nlsf.specs.Fit.{Fit}
 use Rattle.nlsf.specs.Filter.{stabilised}
 use Rattle.nlsf.proofs.Rounds.{rounds-stop, rounds-go-on, rounds-end}

@@ -9,8 +9,7 @@ use mir.Syntax.{w32}
 use mir.Val.{toZ, ofZ}
 use mir.Facts.{toZ-ofZ}
 use Rattle.word.specs.Tabulate.{tabulate}
-use Rattle.word.proofs.Words.{kept}
-use Rattle.stability.proofs.Steps.{got}
+use Rattle.word.proofs.Words.{kept, got}
 use Rattle.nlsf.specs.Lines.{timesFactor}
 use Rattle.nlsf.proofs.Parts.{back-start, back-more, back-ends, front-at}
 use Rattle.nlsf.proofs.Polynomials.{term-front}

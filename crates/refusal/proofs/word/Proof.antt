@@ -4,7 +4,7 @@ use native.Mathlib.Omega.{arith}
 use borrow.Author.Needs.{needs}
 use mathlib.Core.List.{List, [], _∷_, map}
 use lib.Dec.{lit<}
-use lib.ListN.{getD}
+use lib.ListN.{getD, replicate}
 use Rattle.refusal.specs.Refusals.{refusalNumber, refusalWord, textOf}
 use Rattle.refusal.specs.declared.Text.{Text}
 use Rattle.refusal.specs.declared.Refusal.{Refusal}
@@ -12,12 +12,12 @@ use Rattle.refusal.specs.declared.Refusal.the-variants.{Nothing, Rate, S
 use Rattle.refusal.proofs.word.Statement.{statement}
 use Rattle.refusal.proofs.word.Tie as tie
 
-known : (r : Refusal) → refusalNumber r < 14
+known : (r : Refusal) → refusalNumber r < 24
 known r = elim r [ Nothing ↦ lit< tt | Rate ↦ lit< tt | Size ↦ lit< tt | History ↦ lit< tt | RunFull ↦ lit< tt | Signal ↦ lit< tt | Gain ↦ lit< tt | Lag ↦ lit< tt | Taps ↦ lit< tt | Line ↦ lit< tt | Pulses ↦ lit< tt | Speaker ↦ lit< tt | Length ↦ lit< tt | Order ↦ lit< tt ]
 
--- the code's two tables
+-- the code's two tables, with nothing at a number that no row has
 abbrev texts : List Text
-texts = map (λ r. textOf (refusalWord r)) (Nothing ∷ Rate ∷ Size ∷ History ∷ RunFull ∷ Signal ∷ Gain ∷ Lag ∷ Taps ∷ Line ∷ Pulses ∷ Speaker ∷ Length ∷ Order ∷ [])
+texts = map (λ r. textOf (refusalWord r)) (Nothing ∷ Rate ∷ Size ∷ History ∷ RunFull ∷ Signal ∷ Gain ∷ Lag ∷ Taps ∷ Line ∷ Pulses ∷ Speaker ∷ Length ∷ Order ∷ replicate 10 Nothing)
 
 read : (r : Refusal) → _≡_ {A = Text} (record { letters = getD (map (λ t. t .letters) texts) (refusalNumber r) []; len = getD (map (λ t. t .len) texts) (refusalNumber r) 0 }) (textOf (refusalWord r))
 read r = elim r [ Nothing ↦ refl | Rate ↦ refl | Size ↦ refl | History ↦ refl | RunFull ↦ refl | Signal ↦ refl | Gain ↦ refl | Lag ↦ refl | Taps ↦ refl | Line ↦ refl | Pulses ↦ refl | Speaker ↦ refl | Length ↦ refl | Order ↦ refl ]
@@ -28,14 +28,14 @@ mul-letters c = search needs
 array-copy-out-letters : tie.Need-array-copy-out-letters
 array-copy-out-letters c = rw (c .number .ensures) (known (c .before .args .r))
 
-mul-t20 : tie.Need-mul-t20
-mul-t20 c = search needs
+mul-t30 : tie.Need-mul-t30
+mul-t30 c = search needs
 
-array-read-t27 : tie.Need-array-read-t27
-array-read-t27 c = rw (c .before .number .ensures) (known (c .before .before .args .r))
+array-read-t37 : tie.Need-array-read-t37
+array-read-t37 c = rw (c .before .number .ensures) (known (c .before .before .args .r))
 
 returns : tie.Need-returns
 returns c = rw (c .before .number .ensures) (read (c .before .before .args .r))
 
 pub word-spec : {M : Type 1} → statement M
-word-spec = tie.close (tie.spec (λ c κs. tt) (λ c. search needs) mul-letters array-copy-out-letters mul-t20 array-read-t27 returns)
+word-spec = tie.close (tie.spec (λ c κs. tt) (λ c. search needs) mul-letters array-copy-out-letters mul-t30 array-read-t37 returns)

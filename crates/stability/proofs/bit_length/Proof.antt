@@ -2,10 +2,11 @@ use mir.Syntax.{w32}
 use mir.Facts.{toZ-ofZ}
 use lib.IntN.{pos, natAbs}
 use Rattle.word.specs.Int.{wrap32}
+use Rattle.word.proofs.Words.{got}
 use Rattle.macros.specs.Fixed.{clz32}
 use Rattle.macros.proofs.Normal.{clz-le}
 use Rattle.stability.specs.Stability.{bitLength}
-use Rattle.stability.proofs.Steps.{got, bits-left}
+use Rattle.stability.proofs.Steps.{bits-left}
 use Rattle.stability.proofs.bit_length.Statement.{statement}
 use Rattle.stability.proofs.bit_length.Tie as tie
 

@@ -2,9 +2,8 @@ use mathlib.Core.Path.{_≡_}
 use mir.Syntax.{w32, w64}
 use mir.Facts.{toZ-ofZ, sfits-widen}
 use Rattle.word.specs.Int.{wrap32}
-use Rattle.word.proofs.Words.{kept, wrap-fits}
+use Rattle.word.proofs.Words.{kept, wrap-fits, eq-words}
 use Rattle.stability.specs.Stability.{fits32}
-use Rattle.stability.proofs.Steps.{eq-words}
 use Rattle.stability.proofs.fits32.Statement.{statement}
 use Rattle.stability.proofs.fits32.Tie as tie
 

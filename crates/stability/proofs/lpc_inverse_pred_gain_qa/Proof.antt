@@ -8,10 +8,9 @@ use lib.IntN.{pos}
 use lib.ListN.{length, getD}
 use mir.Syntax.{w32}
 use mir.Val.{toZ, ofZ}
-use Rattle.word.proofs.Words.{kept}
+use Rattle.word.proofs.Words.{kept, got}
 use Rattle.word.proofs.Order.{key}
 use Rattle.stability.specs.Stability.{aLimit, rfc8251, step, steps, inverseGain}
-use Rattle.stability.proofs.Steps.{got}
 use Rattle.stability.proofs.Turns.{turn-fails, turn-overflows, turn-goes-on}
 use Rattle.stability.proofs.lpc_inverse_pred_gain_qa.Statement.{statement}
 use Rattle.stability.proofs.lpc_inverse_pred_gain_qa.Tie as tie

@@ -1,7 +1,7 @@
 use mir.Syntax.{w32, w64}
 use mir.Facts.{toZ-ofZ}
+use Rattle.word.proofs.Words.{got}
 use Rattle.stability.specs.Stability.{mulQ}
-use Rattle.stability.proofs.Steps.{got}
 use Rattle.stability.proofs.mul_q.Statement.{statement}
 use Rattle.stability.proofs.mul_q.Tie as tie
 

@@ -4,9 +4,8 @@ use lib.IntN.{pos}
 use lib.ListN.{getD}
 use mir.Syntax.{w32}
 use mir.Val.{toZ, ofZ}
-use Rattle.word.proofs.Words.{kept}
+use Rattle.word.proofs.Words.{kept, got}
 use Rattle.stability.specs.Stability.{reflection, nextCoefficients}
-use Rattle.stability.proofs.Steps.{got}
 use Rattle.stability.proofs.next_coefficients.Statement.{statement}
 use Rattle.stability.proofs.next_coefficients.Tie as tie
 

@@ -1,7 +1,7 @@
 use mir.Syntax.{w32}
 use mir.Facts.{toZ-ofZ}
+use Rattle.word.proofs.Words.{got}
 use Rattle.stability.specs.Stability.{nextGain}
-use Rattle.stability.proofs.Steps.{got}
 use Rattle.stability.proofs.next_gain.Statement.{statement}
 use Rattle.stability.proofs.next_gain.Tie as tie
 

@@ -1,7 +1,7 @@
 use mir.Syntax.{w32}
 use mir.Facts.{toZ-ofZ}
+use Rattle.word.proofs.Words.{got}
 use Rattle.stability.specs.Stability.{rcMult1}
-use Rattle.stability.proofs.Steps.{got}
 use Rattle.stability.proofs.rc_mult1.Statement.{statement}
 use Rattle.stability.proofs.rc_mult1.Tie as tie
 

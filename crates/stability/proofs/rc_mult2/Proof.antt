@@ -1,7 +1,8 @@
 use mir.Syntax.{w32}
 use mir.Facts.{toZ-ofZ}
+use Rattle.word.proofs.Words.{got}
 use Rattle.stability.specs.Stability.{bitLength, rcMult2}
-use Rattle.stability.proofs.Steps.{got, more-places, bitLength-le}
+use Rattle.stability.proofs.Steps.{more-places, bitLength-le}
 use Rattle.stability.proofs.rc_mult2.Statement.{statement}
 use Rattle.stability.proofs.rc_mult2.Tie as tie
 

@@ -2,9 +2,8 @@ use mir.Syntax.{w32}
 use mir.Facts.{toZ-ofZ}
 use Prim.Native.Nat.{_^_}
 use lib.IntN.{pos, _*ℤ_}
-use Rattle.word.proofs.Words.{wrap-neg}
+use Rattle.word.proofs.Words.{wrap-neg, got}
 use Rattle.stability.specs.Stability.{reflection}
-use Rattle.stability.proofs.Steps.{got}
 use Rattle.stability.proofs.reflection.Statement.{statement}
 use Rattle.stability.proofs.reflection.Tie as tie
 

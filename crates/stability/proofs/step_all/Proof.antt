@@ -12,9 +12,9 @@ use mir.Syntax.{w32, w64}
 use mir.Val.{toZ, ofZ}
 use mir.Facts.{toZ-ofZ}
 use Rattle.word.specs.Int.{wrap32}
-use Rattle.word.proofs.Words.{kept}
+use Rattle.word.proofs.Words.{kept, got}
 use Rattle.stability.specs.Stability.{stepDown, stepped, fits32}
-use Rattle.stability.proofs.Steps.{got, map-tabulate}
+use Rattle.stability.proofs.Steps.{map-tabulate}
 use Rattle.stability.proofs.Ends.{Turned, turned-none, turned-left, turned-right, turned-more, turned-all, every, pair, pairs-all}
 use Rattle.stability.proofs.step_all.Statement.{statement}
 use Rattle.stability.proofs.step_all.Tie as tie

@@ -8,8 +8,7 @@ use lib.ListN.{length, getD, take, drop}
 use mir.Syntax.{w32}
 use mir.Val.{toZ, ofZ}
 use mir.Facts.{toZ-ofZ}
-use Rattle.word.proofs.Words.{kept}
-use Rattle.stability.proofs.Steps.{got}
+use Rattle.word.proofs.Words.{kept, got}
 use Rattle.sigproc.specs.Synthesis.{synthesis, played}
 use Rattle.shape.specs.Shape.{Shape, rateOf, orderOf}
 use Rattle.shape.proofs.Shapes.{rate-le}

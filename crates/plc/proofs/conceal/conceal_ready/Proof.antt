@@ -39,6 +39,9 @@ place-is c =
 slice-aggregate-conceal-2 : tie.Need-slice-aggregate-conceal-2
 slice-aggregate-conceal-2 c = search needs
 
+excitation-length : (c : tie.Start) → length (c .args .s .«exc_q14») ≡ 320
+excitation-length c = search needs
+
 conceal-requires : tie.Need-conceal-requires
 conceal-requires c κs =
     let x = c .before .before .before .before .before in
@@ -47,7 +50,7 @@ conceal-requires c κs =
     let p = s .pre in
     let r = rateOf (a .khz) in
     let b = plc-held-bounds r (a .h) (p .9) in
-    let l : length (a .s .«exc_q14») ≡ 320 = search needs in
+    let l = excitation-length s in
     let m : length (a .s .«out_buf») ≡ 480 = sym (slice-aggregate-conceal-2 (c .before .before .before)) in
     let q : Shape = record { rate = r; subframes = a .n } in
     rw (toZ-ofZ (s .fits .khz))

@@ -13,9 +13,8 @@ use mir.Syntax.{w16, w32}
 use mir.Val.{toZ}
 use mir.Facts.{toZ-ofZ}
 use Rattle.word.specs.Tabulate.{tabulate}
-use Rattle.word.proofs.Words.{kept}
+use Rattle.word.proofs.Words.{kept, got}
 use Rattle.macros.specs.Fixed.{smulwb}
-use Rattle.stability.proofs.Steps.{got}
 use Rattle.sigproc.proofs.Fill.{turn}
 use Rattle.plc.proofs.Fill.{zeros-before}
 use Rattle.plc.proofs.conceal.divide.Statement.{statement}

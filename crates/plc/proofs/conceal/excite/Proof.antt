@@ -9,8 +9,7 @@ use lib.IntN.{ℤ, pos}
 use lib.ListN.{length, getD, take}
 use mir.Syntax.{w16, w32}
 use mir.Val.{toZ, ofZ}
-use Rattle.word.proofs.Words.{kept}
-use Rattle.stability.proofs.Steps.{got}
+use Rattle.word.proofs.Words.{kept, got}
 use Rattle.plc.specs.Conceal.{Voice, excitedTimes}
 use Rattle.plc.proofs.Excite.{seed-more, past-more}
 use Rattle.plc.proofs.conceal.excite.Statement.{statement}

@@ -10,8 +10,7 @@ use mir.Syntax.{w16, w32}
 use mir.Val.{toZ}
 use mir.Facts.{toZ-ofZ}
 use Rattle.word.specs.Tabulate.{tabulate}
-use Rattle.word.proofs.Words.{kept}
-use Rattle.stability.proofs.Steps.{got}
+use Rattle.word.proofs.Words.{kept, got}
 use Rattle.sigproc.proofs.Fill.{turn, filled, map-table}
 use Rattle.plc.specs.Conceal.{faded}
 use Rattle.plc.proofs.conceal.faded_taps.Statement.{statement}

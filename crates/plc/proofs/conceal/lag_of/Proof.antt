@@ -1,7 +1,7 @@
 use mathlib.Core.Path.{refl}
 use mir.Syntax.{w32}
 use mir.Facts.{toZ-ofZ}
-use Rattle.stability.proofs.Steps.{got}
+use Rattle.word.proofs.Words.{got}
 use Rattle.plc.proofs.conceal.lag_of.Statement.{statement}
 use Rattle.plc.proofs.conceal.lag_of.Tie as tie
 

@@ -5,8 +5,8 @@ use lib.ListN.{take}
 use mir.Syntax.{w32}
 use mir.Facts.{toZ-ofZ}
 use Rattle.word.proofs.Order.{is, isnt}
+use Rattle.word.proofs.Words.{got}
 use Rattle.stability.proofs.Gains.{inverse-gain}
-use Rattle.stability.proofs.Steps.{got}
 use Rattle.plc.specs.Conceal.{noiseGain}
 use Rattle.plc.proofs.Gain.{limited-kept}
 use Rattle.plc.proofs.conceal.noise_gain.Statement.{statement}

@@ -4,7 +4,7 @@ use lib.Dec.{lit<}
 use mir.Syntax.{w16, w32}
 use mir.Facts.{toZ-ofZ}
 use Rattle.word.proofs.Order.{is, isnt}
-use Rattle.stability.proofs.Steps.{got}
+use Rattle.word.proofs.Words.{got}
 use Rattle.plc.proofs.conceal.noise_scale.Statement.{statement}
 use Rattle.plc.proofs.conceal.noise_scale.Tie as tie
 

@@ -7,9 +7,8 @@ use lib.ListN.{getD, take}
 use lib.Seq.{take-at}
 use mir.Syntax.{w32}
 use mir.Facts.{toZ-ofZ}
-use Rattle.word.proofs.Words.{kept}
+use Rattle.word.proofs.Words.{kept, got}
 use Rattle.word.proofs.Lists.{length-tabulate}
-use Rattle.stability.proofs.Steps.{got}
 use Rattle.shape.specs.Shape.{rateOf}
 use Rattle.shape.proofs.Shapes.{rate-le}
 use Rattle.decoder.proofs.Between.{Between, between}

@@ -2,8 +2,7 @@ use mathlib.Core.Path.{_≡_, refl, _∙_}
 use mir.Syntax.{w16, w32}
 use mir.Val.{toZ, ofZ}
 use mir.Facts.{toZ-ofZ}
-use Rattle.word.proofs.Words.{kept}
-use Rattle.stability.proofs.Steps.{got}
+use Rattle.word.proofs.Words.{kept, got}
 use Rattle.plc.specs.Conceal.{noiseScale}
 use Rattle.plc.proofs.conceal.starting.Statement.{statement}
 use Rattle.plc.proofs.conceal.starting.Tie as tie

@@ -9,9 +9,8 @@ use mir.Syntax.{w16, w32}
 use mir.Val.{toZ, ofZ}
 use mir.Facts.{toZ-ofZ}
 use Rattle.word.specs.Int.{minℤ}
-use Rattle.word.proofs.Words.{kept}
+use Rattle.word.proofs.Words.{kept, got}
 use Rattle.macros.specs.Fixed.{smlawb}
-use Rattle.stability.proofs.Steps.{got}
 use Rattle.shape.specs.Shape.{rateOf}
 use Rattle.shape.proofs.Shapes.{rate-le}
 use Rattle.decoder.proofs.Between.{Between, between}

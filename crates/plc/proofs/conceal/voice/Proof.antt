@@ -3,7 +3,7 @@ use borrow.Author.Needs.{needs}
 use lib.ListN.{take}
 use mir.Syntax.{w32}
 use mir.Facts.{toZ-ofZ}
-use Rattle.stability.proofs.Steps.{got}
+use Rattle.word.proofs.Words.{got}
 use Rattle.plc.specs.Conceal.{voiceBy}
 use Rattle.plc.proofs.Rewhiten.{order-range}
 use Rattle.plc.proofs.conceal.voice.Statement.{statement}

@@ -4,9 +4,8 @@ use lib.IntN.{pos, _-ℤ_}
 use mir.Syntax.{w16, w32}
 use mir.Facts.{toZ-ofZ}
 use Rattle.word.specs.Int.{wrap32}
-use Rattle.word.proofs.Words.{kept, wrap-id}
+use Rattle.word.proofs.Words.{kept, wrap-id, got}
 use Rattle.word.proofs.Sizes.{abs-fits, abs-sub}
-use Rattle.stability.proofs.Steps.{got}
 use Rattle.plc.proofs.conceal.voiced_scale.Statement.{statement}
 use Rattle.plc.proofs.conceal.voiced_scale.Tie as tie
 

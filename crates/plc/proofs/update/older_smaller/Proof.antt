@@ -1,6 +1,5 @@
 use mir.Syntax.{w32}
-use Rattle.word.proofs.Words.{kept}
-use Rattle.stability.proofs.Steps.{got}
+use Rattle.word.proofs.Words.{kept, got}
 use Rattle.plc.proofs.update.older_smaller.Statement.{statement}
 use Rattle.plc.proofs.update.older_smaller.Tie as tie
 

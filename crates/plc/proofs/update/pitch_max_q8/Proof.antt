@@ -1,8 +1,7 @@
 use lib.Dec.{lit≤}
 use mir.Syntax.{w32}
 use mir.Facts.{toZ-ofZ}
-use Rattle.word.proofs.Words.{kept}
-use Rattle.stability.proofs.Steps.{got}
+use Rattle.word.proofs.Words.{kept, got}
 use Rattle.decoder.proofs.Tests.{lag-q8}
 use Rattle.plc.proofs.update.pitch_max_q8.Statement.{statement}
 use Rattle.plc.proofs.update.pitch_max_q8.Tie as tie

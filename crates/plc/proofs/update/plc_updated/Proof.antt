@@ -8,8 +8,7 @@ use lib.ListN.{getD, take, drop}
 use mir.Syntax.{w16, w32}
 use mir.Facts.{toZ-ofZ, toZ-pos}
 use Rattle.word.specs.Int.{wrap16}
-use Rattle.word.proofs.Words.{kept}
-use Rattle.stability.proofs.Steps.{got}
+use Rattle.word.proofs.Words.{kept, got}
 use Rattle.shape.specs.Shape.{shape, rateOf, countOf, orderOf}
 use Rattle.shape.proofs.Shapes.{rate-le, count-le, order-le}
 use Rattle.plc.specs.Hold.{hold}

@@ -1,8 +1,7 @@
 use borrow.Author.Needs.{needs}
 use mir.Syntax.{w16, w32}
 use mir.Facts.{toZ-ofZ}
-use Rattle.word.proofs.Words.{kept}
-use Rattle.stability.proofs.Steps.{got}
+use Rattle.word.proofs.Words.{kept, got}
 use Rattle.plc.specs.Update.{pulseOf}
 use Rattle.plc.proofs.update.pulse_of.Statement.{statement}
 use Rattle.plc.proofs.update.pulse_of.Tie as tie

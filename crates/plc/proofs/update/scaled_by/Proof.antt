@@ -4,8 +4,7 @@ use mir.Syntax.{w16, w32}
 use mir.Val.{toZ, ofZ}
 use mir.Facts.{toZ-ofZ}
 use Rattle.word.specs.Int.{maxℤ}
-use Rattle.word.proofs.Words.{kept}
-use Rattle.stability.proofs.Steps.{got}
+use Rattle.word.proofs.Words.{kept, got}
 use Rattle.macros.proofs.Normal.{quot-fits}
 use Rattle.plc.proofs.Numbers.{max-one}
 use Rattle.plc.proofs.update.scaled_by.Statement.{statement}

@@ -5,8 +5,7 @@ use lib.IntN.{pos}
 use mir.Syntax.{w16}
 use mir.Facts.{toZ-ofZ}
 use Rattle.word.proofs.Order.{lt-read-l, lt-read-r}
-use Rattle.word.proofs.Words.{wrap-id}
-use Rattle.stability.proofs.Steps.{got}
+use Rattle.word.proofs.Words.{wrap-id, got}
 use Rattle.plc.specs.Update.{scaledBy, scaledTap}
 use Rattle.plc.proofs.Numbers.{middle-fits}
 use Rattle.plc.proofs.update.scaled_tap.Statement.{statement}

@@ -1,7 +1,7 @@
 use mir.Syntax.{w32}
 use mir.Facts.{toZ-ofZ}
 use Rattle.word.proofs.Order.{lt-read}
-use Rattle.stability.proofs.Steps.{got}
+use Rattle.word.proofs.Words.{got}
 use Rattle.plc.specs.Update.{stronger}
 use Rattle.plc.proofs.update.stronger.Statement.{statement}
 use Rattle.plc.proofs.update.stronger.Tie as tie

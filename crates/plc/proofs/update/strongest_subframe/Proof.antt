@@ -9,8 +9,7 @@ use lib.ListN.{getD}
 use mir.Syntax.{w32}
 use mir.Val.{toZ, ofZ}
 use mir.Facts.{toZ-ofZ, toZ-pos}
-use Rattle.word.proofs.Words.{kept}
-use Rattle.stability.proofs.Steps.{got}
+use Rattle.word.proofs.Words.{kept, got}
 use Rattle.shape.specs.Shape.{rateOf}
 use Rattle.shape.proofs.Shapes.{rate-le}
 use Rattle.plc.specs.Update.{strongest}

@@ -1,6 +1,6 @@
 use mathlib.Core.Path.{_∙_}
 use mir.Syntax.{w8, w32}
-use Rattle.stability.proofs.Steps.{got}
+use Rattle.word.proofs.Words.{got}
 use Rattle.plc.proofs.update.type_number.Statement.{statement}
 use Rattle.plc.proofs.update.type_number.Tie as tie
 
