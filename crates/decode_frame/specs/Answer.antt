@@ -9,18 +9,17 @@ use Rattle.shape.specs.Shape.{frameLength}
 use Rattle.decoder.specs.State.{shapeOf}
 use Rattle.decoder.specs.Outcome.{Outcome}
 use Rattle.decoder.specs.declared.SilkDecoderState.{SilkDecoderState}
-use Rattle.decoder.specs.declared.SilkDecoderControl.{SilkDecoderControl}
-use Rattle.decoder.specs.declared.Frame.{Frame}
 use Rattle.judge.specs.Rows.{frameRows}
 use Rattle.decode_frame.specs.WholeFrame.{wholeFrame}
+use Rattle.decode_frame.specs.Call.{Call}
 use Rattle.decode_frame.specs.declared.FrameAnswer.{FrameAnswer}
 
-module _ (s : SilkDecoderState) (f : Frame) (c : SilkDecoderControl) (rows : List (List ℤ)) (lines pulses output : List ℤ) where
+module _ (s : SilkDecoderState) (x : Call) where
   unfoldable pub frameRefusal : Refusal
-  frameRefusal = firstOf (frameRows s f c lines (length pulses) (length output))
+  frameRefusal = firstOf (frameRows s (x .frame) (x .control) (x .lines) (length (x .pulses)) (length (x .output)))
 
   abbrev pub frameOutcome : Outcome
-  frameOutcome = wholeFrame (shapeOf s) s f c rows lines pulses
+  frameOutcome = wholeFrame (shapeOf s) s (x .frame) (x .control) (x .rows) (x .lines) (x .pulses)
 
   -- the new state and description, or those lent
   unfoldable pub frameAnswer : FrameAnswer
@@ -28,9 +27,9 @@ module _ (s : SilkDecoderState) (f : Frame) (c : SilkDecoderControl) (rows : Lis
       record {
         refusal = frameRefusal;
         state = ifAccepted frameRefusal (frameOutcome .state) s;
-        control = ifAccepted frameRefusal (frameOutcome .control) c;
+        control = ifAccepted frameRefusal (frameOutcome .control) (x .control);
       }
 
   -- the samples and the rest of what was lent, or all of it
   unfoldable pub frameOutput : List ℤ
-  frameOutput = ifAccepted frameRefusal (frameOutcome .samples ++ drop (frameLength (shapeOf s)) output) output
+  frameOutput = ifAccepted frameRefusal (frameOutcome .samples ++ drop (frameLength (shapeOf s)) (x .output)) (x .output)

@@ -1,3 +1,4 @@
 -- The definitions that the contracts cite.
 pub mod WholeFrame
+pub mod Call
 pub mod Answer

@@ -29,6 +29,7 @@ ghost use Rattle.decoder.specs.declared.Frame.the-variants.{Received, Lost};
 ghost use Rattle.decode_core.specs.Core.{settingOf};
 ghost use Rattle.decode_core.specs.Ready.{Framed};
 ghost use Rattle.decode_frame.specs.WholeFrame.{remembered, finished, received, lost};
+ghost use Rattle.decode_frame.specs.Call.{frameCall};
 ghost use Rattle.decode_frame.specs.Answer.{frameAnswer, frameOutput};
 
 // Why a frame is turned down, or the new state and description.
@@ -171,8 +172,8 @@ pub fn received_frame(
     pulses: &[i16],
     xq: &mut [i16],
 ) -> FrameAnswer
-    ensures { λ r. ⌜ (r ≡ frameAnswer s (Received q) c rows lines (now (pulses .entry)) (now (xq .entry)))
-        × (now (xq .exit) ≡ frameOutput s (Received q) c rows lines (now (pulses .entry)) (now (xq .entry))) ⌝ }
+    ensures { λ r. ⌜ (r ≡ frameAnswer s (frameCall (Received q) c rows lines (now (pulses .entry)) (now (xq .entry))))
+        × (now (xq .exit) ≡ frameOutput s (frameCall (Received q) c rows lines (now (pulses .entry)) (now (xq .entry)))) ⌝ }
 {
     let refusal = judge::received(s, q, c, lines, pulses.len(), xq.len());
     if refusal::number(refusal) != 0 {
@@ -195,7 +196,7 @@ pub fn received_frame(
 
 // A lost frame: refused, it changes nothing.
 pub fn lost_frame(s: SilkDecoderState, c: SilkDecoderControl, xq: &mut [i16]) -> FrameAnswer
-    ensures { λ r. ⌜ (r ≡ frameAnswer s Lost c [] [] [] (now (xq .entry))) × (now (xq .exit) ≡ frameOutput s Lost c [] [] [] (now (xq .entry))) ⌝ }
+    ensures { λ r. ⌜ (r ≡ frameAnswer s (frameCall Lost c [] [] [] (now (xq .entry)))) × (now (xq .exit) ≡ frameOutput s (frameCall Lost c [] [] [] (now (xq .entry)))) ⌝ }
 {
     let refusal = judge::lost(s, xq.len());
     if refusal::number(refusal) != 0 {
@@ -225,8 +226,8 @@ pub fn silk_decode_frame(
     pulses: &[i16],
     xq: &mut [i16],
 ) -> FrameAnswer
-    ensures { λ r. ⌜ (r ≡ frameAnswer s f c rows lines (now (pulses .entry)) (now (xq .entry)))
-        × (now (xq .exit) ≡ frameOutput s f c rows lines (now (pulses .entry)) (now (xq .entry))) ⌝ }
+    ensures { λ r. ⌜ (r ≡ frameAnswer s (frameCall f c rows lines (now (pulses .entry)) (now (xq .entry))))
+        × (now (xq .exit) ≡ frameOutput s (frameCall f c rows lines (now (pulses .entry)) (now (xq .entry)))) ⌝ }
 {
     let Frame::Received(q) = f else {
         return lost_frame(s, c, xq);

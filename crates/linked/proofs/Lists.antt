@@ -17,10 +17,11 @@ use Rattle.decoder.specs.SetUp.{setUp}
 use Rattle.decoder.specs.declared.SilkDecoderState.{SilkDecoderState}
 use Rattle.decoder.specs.declared.Frame.the-variants.{Lost}
 use Rattle.plc.specs.Conceal.{laterGain, plcConceal}
+use Rattle.decode_frame.specs.Call.{Call as FrameCall}
 use Rattle.decode_frame.proofs.Kept.{Good}
 use Rattle.quiet.specs.Bound.{quietBound}
 use Rattle.quiet.proofs.Start.{fits}
-use Rattle.lists.specs.Lists.{Call as FrameCall, refusalOf, stateAfter, countAfter}
+use Rattle.lists.specs.Lists.{refusalOf, stateAfter, countAfter}
 use Rattle.lists.specs.Claims.{Every, none, then, NotForState, TypedCall}
 use Rattle.lists.proofs.Keeps.{newState, keeps, every-map}
 use Rattle.lists.proofs.History.{not-refused, set-up-shaped}

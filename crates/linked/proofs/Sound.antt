@@ -14,8 +14,9 @@ use Rattle.sigproc.specs.Place.{putAt}
 use Rattle.sigproc.proofs.Places.{length-putAt}
 use Rattle.refusal.specs.Refusals.{refusalNumber}
 use Rattle.decoder.specs.declared.SilkDecoderState.{SilkDecoderState}
+use Rattle.decode_frame.specs.Call.{Call as FrameCall}
 use Rattle.decode_frame.proofs.Kept.{Good}
-use Rattle.lists.specs.Lists.{Call as FrameCall, refusalOf, stateAfter, counted, countAfter}
+use Rattle.lists.specs.Lists.{refusalOf, stateAfter, counted, countAfter}
 use Rattle.lists.specs.Claims.{TypedCall}
 use Rattle.lists.proofs.Keeps.{keeps}
 use Rattle.layout.specs.Layout.{stateWords, stateHalves, shortState}

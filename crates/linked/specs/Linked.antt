@@ -7,7 +7,8 @@ use Rattle.word.specs.Int.{eqℤ}
 use Rattle.decoder.specs.declared.SilkDecoderState.{SilkDecoderState}
 use Rattle.decoder.specs.declared.Frame.{Frame}
 use Rattle.decoder.specs.declared.Frame.the-variants.{Received, Lost}
-use Rattle.lists.specs.Lists.{Call as FrameCall, counted}
+use Rattle.decode_frame.specs.Call.{Call as FrameCall}
+use Rattle.lists.specs.Lists.{counted}
 use Rattle.layout.specs.Layout.{part, stateIn, controlIn, rowsIn}
 use Rattle.post.specs.Calls.{Call, numberOf, newWords, newHalves}
 use Rattle.post.specs.Stages.{paramsOf, frameLostCall, frameReceivedCall}

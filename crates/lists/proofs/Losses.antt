@@ -19,9 +19,10 @@ use Rattle.decoder.specs.declared.Frame.{Frame}
 use Rattle.decoder.specs.declared.Frame.the-variants.{Received, Lost}
 use Rattle.decoder.proofs.SetUps.{set-up-state}
 use Rattle.judge.proofs.Alone.{lost-accepted}
+use Rattle.decode_frame.specs.Call.{Call}
 use Rattle.decode_frame.specs.Answer.{frameRefusal}
 use Rattle.decode_frame.proofs.Kept.{Good}
-use Rattle.lists.specs.Lists.{Call, refusalOf, stateAfter, counted, countAfter, placesFrom}
+use Rattle.lists.specs.Lists.{refusalOf, stateAfter, counted, countAfter, placesFrom}
 use Rattle.lists.specs.Claims.{Every, then, Numbered, TypedCall, TypedCalls, Played, LostWithRoom, LossesHeld, LossesPlayed}
 use Rattle.lists.proofs.Keeps.{newState, by-answer, keeps, along, every-map}
 use Rattle.lists.proofs.History.{set-up-shaped, set-up-good}

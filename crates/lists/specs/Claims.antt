@@ -19,8 +19,9 @@ use Rattle.decoder.specs.declared.SilkDecoderState.{SilkDecoderState}
 use Rattle.decoder.specs.declared.Frame.{Frame}
 use Rattle.decoder.specs.declared.Frame.the-variants.{Received, Lost}
 use Rattle.plc.specs.Conceal.{laterGain, plcConceal}
+use Rattle.decode_frame.specs.Call.{Call}
 use Rattle.quiet.specs.Bound.{quietBound}
-use Rattle.lists.specs.Lists.{Call, Place, refusalOf, stateAfter, places}
+use Rattle.lists.specs.Lists.{Place, refusalOf, stateAfter, places}
 
 -- a claim of every element
 pub data Every {A : Type 0} (P : A → Type 0) : List A → Type 0 where

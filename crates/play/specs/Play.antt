@@ -8,6 +8,7 @@ use lib.ListN.{replicate}
 use Rattle.refusal.specs.Refusals.{refusalNumber}
 use Rattle.refusal.specs.declared.Refusal.{Refusal}
 use Rattle.decoder.specs.declared.SilkDecoderState.{SilkDecoderState}
+use Rattle.decode_frame.specs.Call.{Call, frameCall}
 use Rattle.decode_frame.specs.Answer.{frameAnswer, frameOutput}
 use Rattle.decode_frame.specs.declared.FrameAnswer.{FrameAnswer}
 use Rattle.stream.specs.Bytes.{sampleBytes}
@@ -22,8 +23,12 @@ abbrev pub silent : List ℤ
 silent = replicate 320 (pos 0)
 
 module _ (s : SilkDecoderState) (b : List ℕ) where
+  -- the call that a record brings
+  abbrev pub callIn : Call
+  callIn = frameCall (frameIn b) (controlIn b) (rowsIn b) (linesIn b) (pulsesIn b) silent
+
   unfoldable pub answer : FrameAnswer
-  answer = frameAnswer s (frameIn b) (controlIn b) (rowsIn b) (linesIn b) (pulsesIn b) silent
+  answer = frameAnswer s callIn
 
   -- a refused frame leaves the state and the silence
   unfoldable pub soundOf : Sound
@@ -31,7 +36,7 @@ module _ (s : SilkDecoderState) (b : List ℕ) where
       record {
         refusal = answer .refusal;
         state = answer .state;
-        bytes = sampleBytes (frameOutput s (frameIn b) (controlIn b) (rowsIn b) (linesIn b) (pulsesIn b) silent) 320;
+        bytes = sampleBytes (frameOutput s callIn) 320;
       }
 
 -- what became of a record of a kind whose frame was answered by a refusal or by none

@@ -60,10 +60,13 @@ wasVoiced type = eqℤ type (pos 2)
 unfoldable pub harmGain : ℤ → ℤ
 harmGain losses = cond (first losses) (pos 32440) (pos 31130)
 
--- the filter: shrunk by 64,881; all 0 while no frame was received
+-- the filter that concealment goes on from: the one held, all 0 while no frame was received
+abbrev pub filterHeld : SilkDecoderState → SilkPLCState → List ℤ
+filterHeld s h = cond (eqℤ (s .«first_frame_after_reset») (pos 0)) (h .«prev_lpc_q12») (replicate 16 (pos 0))
+
+-- the filter of a lost frame: shrunk by 64,881
 unfoldable pub coefficients : Shape → SilkDecoderState → SilkPLCState → List ℤ
-coefficients p s h =
-    bwexpander (pos 64881) (cond (eqℤ (s .«first_frame_after_reset») (pos 0)) (h .«prev_lpc_q12») (replicate 16 (pos 0))) (lpcOrder p)
+coefficients p s h = bwexpander (pos 64881) (filterHeld s h) (lpcOrder p)
 
 -- the noise's gain (Q15) from subframe to subframe; at the first loss after a frame that was not voiced, less for a strong filter a
 unfoldable pub noiseGain : ℤ → ℤ → List ℤ → ℤ

@@ -15,6 +15,7 @@ use Rattle.plc.specs.declared.PlcLostAnswer.{PlcLostAnswer}
 use Rattle.decode_core.specs.Answer.{coreAnswer}
 use Rattle.decode_core.specs.declared.CoreAnswer.{CoreAnswer}
 use Rattle.decoder.specs.declared.Frame.the-variants.{Received, Lost}
+use Rattle.decode_frame.specs.Call.{frameCall}
 use Rattle.decode_frame.specs.Answer.{frameAnswer}
 use Rattle.decode_frame.specs.declared.FrameAnswer.{FrameAnswer}
 use Rattle.layout.specs.Layout.{shortState, shortControl, stateIn, controlIn, rowsIn, part}
@@ -53,7 +54,7 @@ module _ (words halves : List ℤ) where
 
     -- a whole lost frame, which brings no coefficients, lines or pulses
     abbrev pub frameLostBy : List ℤ → FrameAnswer
-    frameLostBy output = frameAnswer (stateIn words halves) Lost (controlIn control taps) [] [] [] output
+    frameLostBy output = frameAnswer (stateIn words halves) (frameCall Lost (controlIn control taps) [] [] [] output)
 
     abbrev pub frameLostCall : List ℤ → Call
     frameLostCall output =
@@ -82,7 +83,7 @@ module _ (words halves : List ℤ) where
         -- a whole received frame
         abbrev pub frameReceivedBy : Params → List ℤ → List ℤ → FrameAnswer
         frameReceivedBy q pulses output =
-            frameAnswer (stateIn words halves) (Received q) (controlIn control taps) (rowsIn rows) (part lines 0 16) pulses output
+            frameAnswer (stateIn words halves) (frameCall (Received q) (controlIn control taps) (rowsIn rows) (part lines 0 16) pulses output)
 
         abbrev pub frameReceivedCall : Params → List ℤ → List ℤ → Call
         frameReceivedCall q pulses output =

@@ -38,6 +38,7 @@ ghost use Rattle.glue.specs.Answer.{glueOutput};
 ghost use Rattle.cng.specs.Answer.{cngOutput};
 ghost use Rattle.plc.specs.Answer.{plcLostOutput};
 ghost use Rattle.decode_core.specs.Answer.{coreOutput};
+ghost use Rattle.decode_frame.specs.Call.{frameCall};
 ghost use Rattle.decode_frame.specs.Answer.{frameAnswer, frameOutput};
 ghost use Rattle.decoder.specs.declared.Frame.the-variants.{Received, Lost};
 ghost use Rattle.post.specs.Calls.{numberOf, newWords, newHalves, newControl, newTaps, samples};
@@ -367,7 +368,7 @@ pub extern "C" fn post_lost(
         × (now (control .exit) ≡ newControl (frameLostCall (now (words .entry)) (now (halves .entry)) (now (control .entry)) (now (taps .entry)) (now (output .entry))) (frameLostBy (now (words .entry)) (now (halves .entry)) (now (control .entry)) (now (taps .entry)) (now (output .entry)) .control) (now (control .entry)))
         × (now (taps .exit) ≡ newTaps (frameLostCall (now (words .entry)) (now (halves .entry)) (now (control .entry)) (now (taps .entry)) (now (output .entry))) (frameLostBy (now (words .entry)) (now (halves .entry)) (now (control .entry)) (now (taps .entry)) (now (output .entry)) .control) (now (taps .entry)))
         × (now (output .exit) ≡ samples (frameLostCall (now (words .entry)) (now (halves .entry)) (now (control .entry)) (now (taps .entry)) (now (output .entry)))
-        (frameOutput (stateIn (now (words .entry)) (now (halves .entry))) Lost (controlIn (now (control .entry)) (now (taps .entry))) [] [] [] (now (output .entry))) (now (output .entry))) ⌝ }
+        (frameOutput (stateIn (now (words .entry)) (now (halves .entry))) (frameCall Lost (controlIn (now (control .entry)) (now (taps .entry))) [] [] [] (now (output .entry)))) (now (output .entry))) ⌝ }
 {
     if short_call(words.len(), halves.len(), control.len(), taps.len()) {
         return -1;
@@ -404,7 +405,7 @@ pub extern "C" fn post_received(
         × (now (control .exit) ≡ newControl (frameReceivedCall (now (words .entry)) (now (halves .entry)) (now (control .entry)) (now (taps .entry)) (now (rows .entry)) (now (lines .entry)) (paramsOf signal offset interpolation seed) (now (pulses .entry)) (now (output .entry))) (frameReceivedBy (now (words .entry)) (now (halves .entry)) (now (control .entry)) (now (taps .entry)) (now (rows .entry)) (now (lines .entry)) (paramsOf signal offset interpolation seed) (now (pulses .entry)) (now (output .entry)) .control) (now (control .entry)))
         × (now (taps .exit) ≡ newTaps (frameReceivedCall (now (words .entry)) (now (halves .entry)) (now (control .entry)) (now (taps .entry)) (now (rows .entry)) (now (lines .entry)) (paramsOf signal offset interpolation seed) (now (pulses .entry)) (now (output .entry))) (frameReceivedBy (now (words .entry)) (now (halves .entry)) (now (control .entry)) (now (taps .entry)) (now (rows .entry)) (now (lines .entry)) (paramsOf signal offset interpolation seed) (now (pulses .entry)) (now (output .entry)) .control) (now (taps .entry)))
         × (now (output .exit) ≡ samples (frameReceivedCall (now (words .entry)) (now (halves .entry)) (now (control .entry)) (now (taps .entry)) (now (rows .entry)) (now (lines .entry)) (paramsOf signal offset interpolation seed) (now (pulses .entry)) (now (output .entry)))
-        (frameOutput (stateIn (now (words .entry)) (now (halves .entry))) (Received (paramsOf signal offset interpolation seed)) (controlIn (now (control .entry)) (now (taps .entry))) (rowsIn (now (rows .entry))) (part (now (lines .entry)) 0 16) (now (pulses .entry)) (now (output .entry))) (now (output .entry))) ⌝ }
+        (frameOutput (stateIn (now (words .entry)) (now (halves .entry))) (frameCall (Received (paramsOf signal offset interpolation seed)) (controlIn (now (control .entry)) (now (taps .entry))) (rowsIn (now (rows .entry))) (part (now (lines .entry)) 0 16) (now (pulses .entry)) (now (output .entry)))) (now (output .entry))) ⌝ }
 {
     if short_lines(
         words.len(),

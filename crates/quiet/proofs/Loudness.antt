@@ -14,11 +14,11 @@ use Rattle.shape.specs.Shape.{Shape, lpcOrder}
 use Rattle.shape.proofs.Shapes.{Shaped}
 use Rattle.decoder.specs.declared.SilkPLCState.{SilkPLCState}
 use Rattle.decoder.specs.declared.SilkDecoderState.{SilkDecoderState}
-use Rattle.plc.specs.Conceal.{laterGain, concealed}
+use Rattle.plc.specs.Conceal.{filterHeld, laterGain, concealed}
 use Rattle.quiet.specs.Bound.{quietBound}
 use Rattle.quiet.proofs.Voice.{times}
 use Rattle.quiet.proofs.Loss.{ready, AfterLoss, Left, left, Gained, Sized, Fits}
-use Rattle.quiet.proofs.Wane.{Waning, waning}
+use Rattle.quiet.proofs.Wane.{Waning, waning, waning-ready}
 use Rattle.quiet.proofs.Quiet.{Quiet, quiet-of}
 use Rattle.quiet.proofs.Frame.{sized-after}
 use Rattle.quiet.proofs.Frames.{Row, row-first, row-after, low-after}
@@ -28,7 +28,7 @@ pub record After (p : Shape) (G S k c : ℕ) (s : SilkDecoderState) : Type 0 whe
   pub shaped : Shaped (p .rate) (p .subframes)
   pub sized : Sized p s
   pub gained : Gained G (ready p s)
-  pub waning : Waning p S c s (ready p s)
+  pub waning : Waning p S c s (s .«s_plc»)
   pub row : k ≤ c → Row p G (c - k) s
 
 gains-last : (h j : SilkPLCState) → j .«prev_gain_q16» ≡ h .«prev_gain_q16» → laterGain j ≡ laterGain h
@@ -45,7 +45,7 @@ pub record Falls (S k : ℕ) : Type 0 where
 
 module _ (p : Shape) (G S k : ℕ) (falls : Falls S k) where
   quiet : (c : ℕ) (s : SilkDecoderState) → k ≤ c → After p G S k c s → Quiet p s (ready p s)
-  quiet c s h a = quiet-of p S c s (ready p s) (omega (arith, falls .late)) (falls .small c h) (a .waning)
+  quiet c s h a = quiet-of p S c s (ready p s) (omega (arith, falls .late)) (falls .small c h) (waning-ready p S c s (s .«s_plc») (a .waning))
 
   -- one loss more
   pub after-step : (c : ℕ) (s t : SilkDecoderState) → After p G S k c s → AfterLoss p s t → After p G S k (suc c) t
@@ -54,7 +54,7 @@ module _ (p : Shape) (G S k : ℕ) (falls : Falls S k) where
         shaped = a .shaped;
         sized = z;
         gained = record { is = gains-last (ready p s) (ready p t) (l .gains) ∙ a .gained .is; from = a .gained .from; to = a .gained .to };
-        waning = waning p S s (ready p s) t (ready p t) l (a .shaped .count-low) c (a .waning);
+        waning = waning p S s (ready p s) t (t .«s_plc») e (a .shaped .count-low) c (waning-ready p S c s (s .«s_plc») (a .waning));
         row = λ h. go (ltb c k) refl h;
       }
     where
@@ -81,7 +81,7 @@ module _ (p : Shape) (G S k : ℕ) (falls : Falls S k) where
       low-after p s (ready p s) G (c - k) (a .shaped) (quiet c s (omega arith) a) (a .gained) (a .sized) (a .row (omega arith)) (omega arith)
 
   -- any state that a loss may find, with its sum of sizes
-  pub start : (s : SilkDecoderState) (f : Fits p s) → f .gain .0 ≡ G → sizes (ready p s .«prev_lpc_q12») (lpcOrder p) ≤ S → After p G S k 0 s
+  pub start : (s : SilkDecoderState) (f : Fits p s) → f .gain .0 ≡ G → sizes (filterHeld s (s .«s_plc»)) (lpcOrder p) ≤ S → After p G S k 0 s
   unfolding sigmas times
   start s f e h =
       record {

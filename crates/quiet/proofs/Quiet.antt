@@ -9,6 +9,7 @@ use Rattle.sigproc.proofs.Shrink.{Upto, sigmas}
 use Rattle.shape.specs.Shape.{Shape, lpcOrder}
 use Rattle.decoder.specs.declared.SilkPLCState.{SilkPLCState}
 use Rattle.decoder.specs.declared.SilkDecoderState.{SilkDecoderState}
+use Rattle.plc.specs.Conceal.{filterHeld}
 use Rattle.quiet.proofs.Voice.{Still, times}
 use Rattle.quiet.proofs.Wane.{Later, Waning, later-of, noiseLoss, tapLoss, from-turn}
 
@@ -43,7 +44,7 @@ zero-upto (negsuc n) h = absurd (omega arith)
 -- no noise, the middle tap alone and small, a small filter, and not the first loss
 pub record Quiet (p : Shape) (s : SilkDecoderState) (h : SilkPLCState) : Type 0 where
   pub still : Still (h .«ltp_coef_q14») (h .«rand_scale_q14»)
-  pub small : sizes (h .«prev_lpc_q12») (lpcOrder p) ≤ 2048
+  pub small : sizes (filterHeld s h) (lpcOrder p) ≤ 2048
   pub later : Later s
 
 pub quiet-of : (p : Shape) (S c : ℕ) (s : SilkDecoderState) (h : SilkPLCState) → 72 ≤ c → sigmas c S ≤ 2048 → Waning p S c s h → Quiet p s h

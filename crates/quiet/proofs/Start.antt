@@ -4,7 +4,7 @@ use mathlib.Core.Path.{_≡_, refl, sym, subst}
 use mathlib.Core.Bool.{Bool, true, false, cond}
 use mathlib.Core.List.{List}
 use native.Mathlib.Omega.{arith}
-use native.Mathlib.Nat.{le-refl}
+use native.Mathlib.Nat.{le-refl, le-trans}
 use lib.Dec.{lit≤}
 use lib.IntN.{ℤ, pos, natAbs}
 use lib.ListN.{getD}
@@ -25,26 +25,11 @@ use Rattle.decoder.specs.declared.SilkDecoderState.{SilkDecoderState}
 use Rattle.decoder.proofs.Between.{Between}
 use Rattle.decoder.proofs.Bounds.{TapBounds, PlcBounds, bounds}
 use Rattle.plc.specs.Hold.{plcReset, plcReady}
-use Rattle.plc.specs.Conceal.{laterGain, concealed}
+use Rattle.plc.specs.Conceal.{filterHeld, laterGain, concealed}
 use Rattle.quiet.specs.Bound.{quietBound, anySum, anyLosses, smallSum, smallLosses}
 use Rattle.quiet.proofs.Loss.{ready, Gained, Outer, Fits}
-use Rattle.quiet.proofs.Wane.{wider}
+use Rattle.quiet.proofs.Wane.{wider, filter-le}
 use Rattle.quiet.proofs.Loudness.{After, Falls, start, quiet-after-ten}
-
--- ---- what a reset leaves
-record Same (h k : SilkPLCState) : Type 0 where
-  taps : k .«ltp_coef_q14» ≡ h .«ltp_coef_q14»
-  scale : k .«rand_scale_q14» ≡ h .«rand_scale_q14»
-  ltp : k .«prev_ltp_scale_q14» ≡ h .«prev_ltp_scale_q14»
-  coefs : k .«prev_lpc_q12» ≡ h .«prev_lpc_q12»
-
-same : (p : Shape) (h : SilkPLCState) → Same h (plcReady p h)
-unfolding plcReady plcReset
-same p h = go (eqℤ (pos (p .rate)) (h .«fs_khz»))
-  where
-    go : (b : Bool) → Same h (cond b h (plcReset p h))
-    go true = record { taps = refl; scale = refl; ltp = refl; coefs = refl }
-    go false = record { taps = refl; scale = refl; ltp = refl; coefs = refl }
 
 -- ---- an accepted state
 taps-of : (b : List ℤ) → TapBounds b → Outer b × (sizeAt b 2 ≤ 15565)
@@ -73,7 +58,6 @@ fits s a t =
     let b = bounds (rateOf (s .«fs_khz»)) s a in
     let k = b .plc in
     let o = taps-of (h .«ltp_coef_q14») (k .«ltp_coef_q14») in
-    let e = same (shapeOf s) h in
     record {
       shaped = b .sizes .bounds;
       sized = record {
@@ -83,11 +67,11 @@ fits s a t =
       };
       count = (natAbs (s .«loss_cnt»), b .decoder .«loss_cnt»);
       gain = gain-of (shapeOf s) h k;
-      outer = rw (e .taps) (o .0);
-      tap = rw (e .taps) (o .1);
-      noise = rw (e .scale) (wider (h .«rand_scale_q14») 27840 32767 (lit≤ tt) (upto-of 27840 (h .«rand_scale_q14») (k .«rand_scale_q14»)));
-      ltp = rw (e .ltp) (upto-of 16384 (h .«prev_ltp_scale_q14») (k .«prev_ltp_scale_q14»));
-      coefs = rw (e .coefs) (fit-bounded (h .«prev_lpc_q12») (t .«s_plc» .«prev_lpc_q12» .fits));
+      outer = o .0;
+      tap = o .1;
+      noise = wider (h .«rand_scale_q14») 27840 32767 (lit≤ tt) (upto-of 27840 (h .«rand_scale_q14») (k .«rand_scale_q14»));
+      ltp = upto-of 16384 (h .«prev_ltp_scale_q14») (k .«prev_ltp_scale_q14»);
+      coefs = fit-bounded (h .«prev_lpc_q12») (t .«s_plc» .«prev_lpc_q12» .fits);
     }
 
 -- ---- from any state
@@ -97,7 +81,7 @@ falls-any = record { late = lit≤ tt; small = sum-small }
 pub start-any : (p : Shape) (s : SilkDecoderState) (f : Fits p s) → After p (f .gain .0) anySum anyLosses 0 s
 start-any p s f =
     start p (f .gain .0) anySum anyLosses falls-any s f refl
-    (omega (arith, sizes-le (ready p s .«prev_lpc_q12») (lpcOrder p) 32768 (f .coefs), order-le (p .rate)))
+    (le-trans (filter-le s (s .«s_plc») (lpcOrder p)) (omega (arith, sizes-le (s .«s_plc» .«prev_lpc_q12») (lpcOrder p) 32768 (f .coefs), order-le (p .rate))))
 
 pub quiet-after-1024 : (p : Shape) (G c : ℕ) (s : SilkDecoderState) → 1024 ≤ c → After p G anySum anyLosses c s → Bounded (quietBound G) (concealed p s (ready p s))
 quiet-after-1024 p G c s h a = quiet-after-ten p G anySum anyLosses falls-any c s (omega arith) a
@@ -106,5 +90,5 @@ quiet-after-1024 p G c s h a = quiet-after-ten p G anySum anyLosses falls-any c 
 pub falls-small : Falls smallSum smallLosses
 falls-small = record { late = lit≤ tt; small = sum-small-sooner }
 
-pub start-small : (p : Shape) (s : SilkDecoderState) (f : Fits p s) → sizes (s .«s_plc» .«prev_lpc_q12») (lpcOrder p) ≤ smallSum → After p (f .gain .0) smallSum smallLosses 0 s
-start-small p s f h = start p (f .gain .0) smallSum smallLosses falls-small s f refl (rw (same p (s .«s_plc») .coefs) h)
+pub start-small : (p : Shape) (s : SilkDecoderState) (f : Fits p s) → sizes (filterHeld s (s .«s_plc»)) (lpcOrder p) ≤ smallSum → After p (f .gain .0) smallSum smallLosses 0 s
+start-small p s f h = start p (f .gain .0) smallSum smallLosses falls-small s f refl h

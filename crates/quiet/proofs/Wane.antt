@@ -1,5 +1,5 @@
 -- What c counted losses leave of the filter's sizes, the taps and the noise's scale.
-use Prim.Native.Nat.{ℕ, zero, suc, _+_, _-_, _*_, _/_, _^_, _<_, _≤_}
+use Prim.Native.Nat.{ℕ, zero, suc, _+_, _-_, _*_, _/_, _^_, _<_, _≤_, zero-le}
 use mathlib.Core.Path.{_≡_, refl, ap, subst}
 use mathlib.Core.Bool.{Bool, true, false, cond}
 use mathlib.Core.List.{List}
@@ -16,7 +16,6 @@ use Rattle.word.specs.Size.{sizeAt, sizes}
 use Rattle.word.proofs.Words.{wrap-id}
 use Rattle.word.proofs.Sizes.{abs-add, abs-sub, abs-fits}
 use Rattle.macros.specs.Fixed.{smulbb, smulwb}
-use Rattle.sigproc.specs.Expand.{bwexpander}
 use Rattle.sigproc.proofs.Shrink.{Upto, sigma, sigmas, shrunk-sum}
 use Rattle.stability.specs.Stability.{stability, inverseGain}
 use Rattle.shape.specs.Shape.{Shape, lpcOrder}
@@ -24,9 +23,10 @@ use Rattle.shape.proofs.Shapes.{order-le}
 use Rattle.decoder.specs.declared.SilkPLCState.{SilkPLCState}
 use Rattle.decoder.specs.declared.SilkDecoderState.{SilkDecoderState}
 use Rattle.judge.specs.Taps.{tapSum}
-use Rattle.plc.specs.Conceal.{noisePlace, first, wasVoiced, harmGain, coefficients, noiseGain, noiseScale, voiceBy, voice}
+use Rattle.plc.specs.Hold.{plcReady}
+use Rattle.plc.specs.Conceal.{noisePlace, first, wasVoiced, harmGain, filterHeld, coefficients, noiseGain, noiseScale, voiceBy, voice}
 use Rattle.quiet.proofs.Voice.{times, lower, nearer, times-lower, voices-scale, voices-tap}
-use Rattle.quiet.proofs.Loss.{Left, Outer}
+use Rattle.quiet.proofs.Loss.{Left, Outer, Same, same}
 
 -- ---- the gains of a loss
 -- at least one loss before
@@ -206,27 +206,28 @@ times-noise zero = lit≤ tt
 times-noise (suc c) = let i = times-noise c in omega arith
 
 -- ---- the filter
-zeros : (n j : ℕ) → sizeAt (replicate n (pos 0)) j ≤ 0
+pub zeros : (n j : ℕ) → sizeAt (replicate n (pos 0)) j ≤ 0
 zeros zero j = le-refl 0
 zeros (suc n) zero = le-refl 0
 zeros (suc n) (suc j) = zeros n j
 
-zeros-sum : (n j : ℕ) → sizes (replicate n (pos 0)) j ≤ 0
+pub zeros-sum : (n j : ℕ) → sizes (replicate n (pos 0)) j ≤ 0
 unfolding sizes
 zeros-sum n zero = le-refl 0
 zeros-sum n (suc j) = omega (arith, zeros-sum n j, zeros n j)
 
-pub coefs-sum : (p : Shape) (s : SilkDecoderState) (h : SilkPLCState) (x : ℕ) → sizes (h .«prev_lpc_q12») (lpcOrder p) ≤ x
+pub coefs-sum : (p : Shape) (s : SilkDecoderState) (h : SilkPLCState) (x : ℕ) → sizes (filterHeld s h) (lpcOrder p) ≤ x
     → sizes (coefficients p s h) (lpcOrder p) ≤ sigma x
 unfolding coefficients
-coefs-sum p s h x k = go (eqℤ (s .«first_frame_after_reset») (pos 0))
-  where
-    d : ℕ
-    d = lpcOrder p
+coefs-sum p s h x k = shrunk-sum (filterHeld s h) (lpcOrder p) x (order-le (p .rate)) k
 
-    go : (b : Bool) → sizes (bwexpander (pos 64881) (cond b (h .«prev_lpc_q12») (replicate 16 (pos 0))) d) d ≤ sigma x
-    go true = shrunk-sum (h .«prev_lpc_q12») d x (order-le (p .rate)) k
-    go false = shrunk-sum (replicate 16 (pos 0)) d x (order-le (p .rate)) (omega (arith, zeros-sum 16 d))
+-- no more than what is held
+pub filter-le : (s : SilkDecoderState) (h : SilkPLCState) (d : ℕ) → sizes (filterHeld s h) d ≤ sizes (h .«prev_lpc_q12») d
+filter-le s h d = go (eqℤ (s .«first_frame_after_reset») (pos 0))
+  where
+    go : (b : Bool) → sizes (cond b (h .«prev_lpc_q12») (replicate 16 (pos 0))) d ≤ sizes (h .«prev_lpc_q12») d
+    go true = le-refl _
+    go false = le-trans (zeros-sum 16 d) zero-le
 
 -- ---- a frame
 module _ (p : Shape) (s : SilkDecoderState) (h : SilkPLCState) where
@@ -255,7 +256,7 @@ wider z A B h k = (k .0, omega arith)
 
 -- c losses count, and S is the sum of the coefficients' sizes before the first
 pub record Waning (p : Shape) (S c : ℕ) (s : SilkDecoderState) (h : SilkPLCState) : Type 0 where
-  pub sum : sizes (h .«prev_lpc_q12») (lpcOrder p) ≤ sigmas c S
+  pub sum : sizes (filterHeld s h) (lpcOrder p) ≤ sigmas c S
   pub outer : Outer (h .«ltp_coef_q14»)
   pub tap : sizeAt (h .«ltp_coef_q14») 2 ≤ times tapLoss (c - 1) 15565
   pub noise : Upto (times noiseLoss (c - 1) 32767) (h .«rand_scale_q14»)
@@ -266,8 +267,24 @@ pub later-of : (p : Shape) (S c : ℕ) (s : SilkDecoderState) (h : SilkPLCState)
 later-of p S c s h k v =
     rw (v .count .1) (ne-eqb (v .count .0) 0 (λ e. omega (arith, v .count .2)))
 
+-- what concealment works with
+pub waning-ready : (p : Shape) (S c : ℕ) (s : SilkDecoderState) (h : SilkPLCState) → Waning p S c s h → Waning p S c s (plcReady p h)
+waning-ready p S c s h v =
+    let e = same p h in
+    record {
+      sum = rw (e .coefs) (v .sum);
+      outer = rw (e .taps) (v .outer);
+      tap = rw (e .taps) (v .tap);
+      noise = rw (e .scale) (v .noise);
+      ltp = rw (e .ltp) (v .ltp);
+      count = v .count;
+    }
+
 -- one loss more
 module _ (p : Shape) (S : ℕ) (s : SilkDecoderState) (h : SilkPLCState) (t : SilkDecoderState) (k : SilkPLCState) (l : Left p s h t k) (two : 2 ≤ p .subframes) where
+  filter-after : sizes (filterHeld t k) (lpcOrder p) ≤ sizes (coefficients p s h) (lpcOrder p)
+  filter-after = le-trans (filter-le t k (lpcOrder p)) (rw (l .coefs) (le-refl _))
+
   counted : (c : ℕ) → Waning p S c s h → (m : ℕ) × (t .«loss_cnt» ≡ pos m) × (suc c ≤ m)
   counted c v = (v .count .0 + 1, rw (l .count, v .count .1) refl, omega (arith, v .count .2))
 
@@ -277,7 +294,7 @@ module _ (p : Shape) (S : ℕ) (s : SilkDecoderState) (h : SilkPLCState) (t : Si
       let A = natAbs (harmGain (s .«loss_cnt»)) in
       let y = scale-of p s h 32767 32767 (noise-any p s h) (lit≤ tt) (lit≤ tt) (scale-any s h (v .outer) (v .tap) (v .ltp) (v .noise)) in
       record {
-        sum = rw (l .coefs) (coefs-sum p s h S (v .sum));
+        sum = le-trans filter-after (coefs-sum p s h S (v .sum));
         outer = rw (l .taps) (outer-of p s h (v .outer));
         tap = rw (l .taps) (le-trans (tap-of p s h 2 A 15565 (le-refl A) (v .tap)) (tap-first A (p .subframes) 15565 (harm-any s) (le-refl 15565)));
         noise = rw (l .scale) (wider (voice p s h .scale) _ 32767 (times-lower 32767 (p .subframes) 32767 (lit≤ tt)) y);
@@ -294,7 +311,7 @@ module _ (p : Shape) (S : ℕ) (s : SilkDecoderState) (h : SilkPLCState) (t : Si
       let u : Upto X (noiseScale (s .«loss_cnt») (s .«prev_signal_type») h) = rw (scale-later s h later) (rw e at (v .noise)) in
       let y = scale-of p s h 29491 X (noise-later p s h later) (lit≤ tt) (times-noise c) u in
       record {
-        sum = rw (l .coefs) (coefs-sum p s h (sigmas (suc c) S) (v .sum));
+        sum = le-trans filter-after (coefs-sum p s h (sigmas (suc c) S) (v .sum));
         outer = rw (l .taps) (outer-of p s h (v .outer));
         tap = rw (l .taps, e2) (le-trans (tap-of p s h 2 31130 B (harm-later s later) b) (tap-loss (p .subframes) B two (times-tap c)));
         noise = rw (l .scale, e2) (wider (voice p s h .scale) _ (noiseLoss X) (noise-loss (p .subframes) X two) y);

@@ -12,24 +12,25 @@ use Rattle.decoder.specs.State.{shapeOf}
 use Rattle.decoder.specs.declared.Frame.the-variants.{Lost}
 use Rattle.judge.proofs.Bounds.{LostFits, lost-fits}
 use Rattle.decode_frame.specs.WholeFrame.{wholeFrame}
+use Rattle.decode_frame.specs.Call.{frameCall}
 use Rattle.decode_frame.specs.Answer.{frameRefusal}
 use Rattle.decode_frame.proofs.Answers.{refused-answer, played-answer}
 use Rattle.decode_frame.proofs.lost_frame.Statement.{statement}
 use Rattle.decode_frame.proofs.lost_frame.Tie as tie
 
-judged : (c : tie.After-lost) → let a = c .before .args in c .lost .result ≡ frameRefusal (a .s) Lost (a .c) [] [] [] (a .xq .now)
+judged : (c : tie.After-lost) → let a = c .before .args in c .lost .result ≡ frameRefusal (a .s) (frameCall Lost (a .c) [] [] [] (a .xq .now))
 unfolding frameRefusal
 judged c = c .lost .ensures
 
 -- the number of the refusal
-refused : (c : tie.After-number) → let a = c .before .before .args in c .number .result ≡ refusalNumber (frameRefusal (a .s) Lost (a .c) [] [] [] (a .xq .now))
+refused : (c : tie.After-number) → let a = c .before .before .args in c .number .result ≡ refusalNumber (frameRefusal (a .s) (frameCall Lost (a .c) [] [] [] (a .xq .now)))
 refused c = c .number .ensures ∙ ap refusalNumber (judged (c .before))
 
 returns : tie.Need-returns
 returns c =
     let n = c .before in
     let a = n .before .before .args in
-    refused-answer (a .s) Lost (a .c) [] [] [] (a .xq .now) _ (judged (n .before)) (λ e. c .if1 .taken (refused n ∙ e))
+    refused-answer (a .s) (frameCall Lost (a .c) [] [] [] (a .xq .now)) _ (judged (n .before)) (λ e. c .if1 .taken (refused n ∙ e))
 
 -- the frame's length
 samples : (c : tie.After-frame-length) → c .frame-length .result ≡ frameLength (shapeOf (c .before .before .before .before .before .before .args .s))
@@ -61,7 +62,7 @@ returns-2 c =
     let t = c .before .before .before .before .before in
     let i = t .before .before .before in
     let a = i .before .before .before .args in
-    played-answer (a .s) Lost (a .c) [] [] [] (a .xq .now) _ (judged (i .before .before)) (sym (refused (i .before)) ∙ i .if1 .left) _ _ (o .ensures) (samples t)
+    played-answer (a .s) (frameCall Lost (a .c) [] [] [] (a .xq .now)) _ (judged (i .before .before)) (sym (refused (i .before)) ∙ i .if1 .left) _ _ (o .ensures) (samples t)
 
 pub lost-frame-spec : {M : Type 1} → statement M
 lost-frame-spec =

@@ -1,6 +1,7 @@
 use mathlib.Core.Path.{sym, ap, _∙_}
 use borrow.Author.Needs.{needs}
 use Rattle.decode_frame.specs.WholeFrame.{wholeFrame}
+use Rattle.decode_frame.specs.Call.{frameCall}
 use Rattle.decode_frame.specs.Answer.{frameRefusal, frameAnswer, frameOutput}
 use Rattle.decode_frame.proofs.silk_decode_frame.Statement.{statement}
 use Rattle.decode_frame.proofs.silk_decode_frame.Tie as tie
@@ -12,8 +13,8 @@ returns c =
     let t = c .before .before .before in
     let a = t .before .before .args in
     let was = sym (t .enum-told .given .1) in (
-      e .0 ∙ ap (λ f. frameAnswer (a .s) f (a .c) (a .rows) (a .lines) (a .pulses .now) (a .xq .now)) was,
-      e .1 ∙ ap (λ f. frameOutput (a .s) f (a .c) (a .rows) (a .lines) (a .pulses .now) (a .xq .now)) was,
+      e .0 ∙ ap (λ f. frameAnswer (a .s) (frameCall f (a .c) (a .rows) (a .lines) (a .pulses .now) (a .xq .now))) was,
+      e .1 ∙ ap (λ f. frameOutput (a .s) (frameCall f (a .c) (a .rows) (a .lines) (a .pulses .now) (a .xq .now))) was,
     )
 
 returns-2 : tie.Need-returns-2
@@ -22,8 +23,8 @@ returns-2 c =
     let t = c .before .before .before .before in
     let a = t .before .before .args in
     let was = sym (t .f .given .1) in (
-      e .0 ∙ ap (λ f. frameAnswer (a .s) f (a .c) (a .rows) (a .lines) (a .pulses .now) (a .xq .now)) was,
-      e .1 ∙ ap (λ f. frameOutput (a .s) f (a .c) (a .rows) (a .lines) (a .pulses .now) (a .xq .now)) was,
+      e .0 ∙ ap (λ f. frameAnswer (a .s) (frameCall f (a .c) (a .rows) (a .lines) (a .pulses .now) (a .xq .now))) was,
+      e .1 ∙ ap (λ f. frameOutput (a .s) (frameCall f (a .c) (a .rows) (a .lines) (a .pulses .now) (a .xq .now))) was,
     )
 
 pub silk-decode-frame-spec : {M : Type 1} → statement M

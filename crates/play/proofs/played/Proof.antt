@@ -1,5 +1,6 @@
 use mathlib.Core.Path.{_∙_}
 use Rattle.stream.specs.Bytes.{sampleBytes}
+use Rattle.decode_frame.specs.Call.{frameCall}
 use Rattle.decode_frame.specs.Answer.{frameAnswer, frameOutput}
 use Rattle.play.specs.Play.{answer, soundOf}
 use borrow.Author.Needs.{needs}
@@ -20,8 +21,8 @@ returns c =
     let l = x .before .before .lines-in .ensures in
     let p = x .before .pulses-in .ensures in
     let q = x .silence .ensures in
-    let a = d .silk-decode-frame .ensures .0 ∙ λ i. frameAnswer s (f i) (k i) (r i) (l i) (p i) (q i) in
-    let o = d .silk-decode-frame .ensures .1 ∙ λ i. frameOutput s (f i) (k i) (r i) (l i) (p i) (q i) in
+    let a = d .silk-decode-frame .ensures .0 ∙ λ i. frameAnswer s (frameCall (f i) (k i) (r i) (l i) (p i) (q i)) in
+    let o = d .silk-decode-frame .ensures .1 ∙ λ i. frameOutput s (frameCall (f i) (k i) (r i) (l i) (p i) (q i)) in
     let e = c .samples-bytes .ensures ∙ λ i. sampleBytes (o i) 320 in
     λ i. record { refusal = a i .refusal; state = a i .state; bytes = e i }
 

@@ -9,6 +9,7 @@ use Rattle.refusal.specs.Refusals.{refusalNumber, ifAccepted}
 use Rattle.sigproc.specs.Place.{putAt}
 use Rattle.layout.specs.Layout.{shortState, shortControl, stateWords, stateHalves, controlNumbers}
 use Rattle.decoder.specs.declared.Frame.the-variants.{Lost}
+use Rattle.decode_frame.specs.Call.{frameCall}
 use Rattle.decode_frame.specs.Answer.{frameAnswer, frameOutput}
 use Rattle.post.specs.Stages.{shortCall}
 use Rattle.post.proofs.Ends.{state-long, control-long}
@@ -58,7 +59,7 @@ returns-2 c =
     let x = c .before .before .before .before .before .before .before .before .before .before .before .before .before .before .before .before .before .before .before .state-in .ensures in
     let y = c .before .before .before .before .before .before .before .before .before .before .before .before .before .before .before .before .control-in .ensures in
     let e = c .before .before .before .before .before .before .before .before .before .before .before .before .before .before .lost-frame .ensures in
-    let r = e .0 ∙ λ i. frameAnswer (x i) Lost (y i) [] [] [] (a .output .now) in
+    let r = e .0 ∙ λ i. frameAnswer (x i) (frameCall Lost (y i) [] [] [] (a .output .now)) in
     let g = c .before .before .before .before .before .before .before .before .keep-state .ensures in
     let d = c .before .before .before .keep-control .ensures in (
       rw h (kept w32 _ (c .code .ok) ∙ c .code .ensures ∙ λ i. pos (refusalNumber (r i .refusal))),
@@ -66,7 +67,7 @@ returns-2 c =
       rw h (g .1 ∙ λ i. ifAccepted (r i .refusal) (putAt (a .halves .now) 0 (stateHalves (r i .state))) (a .halves .now)),
       rw h (d .0 ∙ λ i. ifAccepted (r i .refusal) (putAt (a .control .now) 0 (controlNumbers (r i .control))) (a .control .now)),
       rw h (d .1 ∙ λ i. ifAccepted (r i .refusal) (putAt (a .taps .now) 0 (r i .control .«ltp_coef_q14»)) (a .taps .now)),
-      rw h (e .1 ∙ λ i. frameOutput (x i) Lost (y i) [] [] [] (a .output .now)),
+      rw h (e .1 ∙ λ i. frameOutput (x i) (frameCall Lost (y i) [] [] [] (a .output .now))),
     )
 
 pub post-lost-spec : {M : Type 1} → statement M

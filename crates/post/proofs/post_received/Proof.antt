@@ -9,6 +9,7 @@ use Rattle.refusal.specs.Refusals.{refusalNumber, ifAccepted}
 use Rattle.sigproc.specs.Place.{putAt}
 use Rattle.layout.specs.Layout.{shortState, shortControl, stateWords, stateHalves, controlNumbers}
 use Rattle.decoder.specs.declared.Frame.the-variants.{Received}
+use Rattle.decode_frame.specs.Call.{frameCall}
 use Rattle.decode_frame.specs.Answer.{frameAnswer, frameOutput}
 use Rattle.post.specs.Stages.{shortCall, shortFrame, shortLines, paramsOf}
 use Rattle.post.proofs.Ends.{state-long, control-long, without-rows, rows-long, without-lines, lines-long}
@@ -76,7 +77,7 @@ returns-2 c =
     let n = c .before .before .before .before .before .before .before .before .before .before .before .before .before .before .before .before .part16-16 .ensures in
     let q = c .before .before .before .before .before .before .before .before .before .before .before .before .before .before .before .before .before .before .before .before .before .params .ensures ∙ λ i. paramsOf (toZ-ofZ (f .signal) i) (toZ-ofZ (f .offset) i) (toZ-ofZ (f .interpolation) i) (toZ-ofZ (f .seed) i) in
     let e = c .before .before .before .before .before .before .before .before .before .before .before .before .before .before .received-frame .ensures in
-    let r = e .0 ∙ λ i. frameAnswer (x i) (Received (q i)) (y i) (z i) (n i) (a .pulses .now) (a .output .now) in
+    let r = e .0 ∙ λ i. frameAnswer (x i) (frameCall (Received (q i)) (y i) (z i) (n i) (a .pulses .now) (a .output .now)) in
     let g = c .before .before .before .before .before .before .before .before .keep-state .ensures in
     let d = c .before .before .before .keep-control .ensures in (
       rw h (kept w32 _ (c .code .ok) ∙ c .code .ensures ∙ λ i. pos (refusalNumber (r i .refusal))),
@@ -84,7 +85,7 @@ returns-2 c =
       rw h (g .1 ∙ λ i. ifAccepted (r i .refusal) (putAt (a .halves .now) 0 (stateHalves (r i .state))) (a .halves .now)),
       rw h (d .0 ∙ λ i. ifAccepted (r i .refusal) (putAt (a .control .now) 0 (controlNumbers (r i .control))) (a .control .now)),
       rw h (d .1 ∙ λ i. ifAccepted (r i .refusal) (putAt (a .taps .now) 0 (r i .control .«ltp_coef_q14»)) (a .taps .now)),
-      rw h (e .1 ∙ λ i. frameOutput (x i) (Received (q i)) (y i) (z i) (n i) (a .pulses .now) (a .output .now)),
+      rw h (e .1 ∙ λ i. frameOutput (x i) (frameCall (Received (q i)) (y i) (z i) (n i) (a .pulses .now) (a .output .now))),
     )
 
 pub post-received-spec : {M : Type 1} → statement M
