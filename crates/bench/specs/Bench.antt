@@ -8,7 +8,7 @@ use Rattle.word.specs.Row.{Row, row}
 use Rattle.macros.specs.Fixed.{rand, sqrtApprox}
 use Rattle.macros.specs.Quotient.{inverse32VarQ}
 use Rattle.stability.specs.Stability.{inversePredGainOf}
-use Rattle.shape.specs.Shape.{Shape, frameLength}
+use Rattle.shape.specs.Shape.{frameLength}
 use Rattle.decoder.specs.State.{shapeOf}
 use Rattle.decoder.specs.SetUp.{setUp}
 use Rattle.decoder.specs.Outcome.{Outcome, build}
@@ -36,23 +36,24 @@ description sum =
       «ltp_scale_q14» = pos 16384;
     }
 
+-- coefficient rows of 0
 abbrev rows : List (List ℤ)
 rows = replicate 2 (replicate 16 (pos 0))
 
 -- the first sample of excitation that core leaves of a frame of type 2 and offset type 0, by its seed and its first pulse
-abbrev excitationOf : ℤ → ℤ → ℤ
-excitationOf seed pulse =
+abbrev excitationAfter : ℤ → ℤ → ℤ
+excitationAfter seed pulse =
     let s = start (pos 16) (pos 4) in
     let q : Params = record { signal = Voiced; «quant_offset_type» = pos 0; «nlsf_interp_coef_q2» = pos 4; seed = seed } in
     getD (decodeCore (shapeOf s) s q (description (pos 0)) rows (pulse ∷ replicate 319 (pos 0)) .state .«exc_q14») 0 (pos 0)
 
 -- the inverse gain of a filter of order 1
-abbrev gainOf : ℤ → ℤ
-gainOf a = inversePredGainOf (a ∷ []) 1 .«inv_gain_q30»
+abbrev inverseGainOf : ℤ → ℤ
+inverseGainOf a = inversePredGainOf (a ∷ []) 1 .«inv_gain_q30»
 
 -- the middle tap that concealment holds after a voiced frame, by its sum of taps
-abbrev tapOf : ℤ → ℤ
-tapOf sum =
+abbrev tapAfter : ℤ → ℤ
+tapAfter sum =
     let s = start (pos 16) (pos 4) in
     getD (plcUpdate (shapeOf s) s Voiced (description sum) rows .«s_plc» .«ltp_coef_q14») 2 (pos 0)
 
@@ -68,21 +69,21 @@ pitched nb pitch =
     (s .«prev_signal_type»)
     (hold h pitch (h .«ltp_coef_q14») (h .«prev_lpc_q12») (h .«rand_seed») (h .«rand_scale_q14») (h .«prev_ltp_scale_q14») (h .«prev_gain_q16») (h .«fs_khz») (h .«nb_subfr») (h .«subfr_length»))
 
--- a state with one loss
-abbrev lost : SilkDecoderState → Outcome
-lost s = plcConceal (shapeOf s) s (description (pos 0))
+-- one loss
+abbrev oneLoss : SilkDecoderState → Outcome
+oneLoss s = plcConceal (shapeOf s) s (description (pos 0))
 
 -- the pitch (Q8) that concealment holds after one loss, and the description's last lag
-abbrev pitchOf : ℤ → ℤ → ℤ
-pitchOf nb pitch = lost (pitched nb pitch) .state .«s_plc» .«pitch_l_q8»
+abbrev pitchAfter : ℤ → ℤ → ℤ
+pitchAfter nb pitch = oneLoss (pitched nb pitch) .state .«s_plc» .«pitch_l_q8»
 
-abbrev lagOf : ℤ → ℤ → ℤ
-lagOf nb pitch = getD (lost (pitched nb pitch) .control .«pitch_l») 3 (pos 0)
+abbrev lagAfter : ℤ → ℤ → ℤ
+lagAfter nb pitch = getD (oneLoss (pitched nb pitch) .control .«pitch_l») 3 (pos 0)
 
 -- line i of the noise after a first loss at a rate
-abbrev lineOf : ℤ → ℕ → ℤ
-lineOf khz i =
-    let o = lost (start khz (pos 4)) in
+abbrev lineAfter : ℤ → ℕ → ℤ
+lineAfter khz i =
+    let o = oneLoss (start khz (pos 4)) in
     let p = shapeOf (o .state) in
     getD (comfortNoise p (o .state) (o .control .«gains_q16») (frameLength p) (o .samples) .state .«s_cng» .«cng_smth_nlsf_q15») i (pos 0)
 
@@ -92,11 +93,11 @@ bench =
     row (rand (pos 0)) (pos 907633515)
     ∷ row (rand (pos 1)) (pos 1103947680)
     -- seed 0, type 2, offset 0, pulse 1; 0; −1
-    ∷ row (excitationOf (pos 0) (pos 1)) (pos 15616)
-    ∷ row (excitationOf (pos 0) (pos 0)) (pos 512)
-    ∷ row (excitationOf (pos 0) (negsuc 0)) (negsuc 14591)
+    ∷ row (excitationAfter (pos 0) (pos 1)) (pos 15616)
+    ∷ row (excitationAfter (pos 0) (pos 0)) (pos 512)
+    ∷ row (excitationAfter (pos 0) (negsuc 0)) (negsuc 14591)
     -- seed 7, same, pulse 0
-    ∷ row (excitationOf (pos 7) (pos 0)) (negsuc 511)
+    ∷ row (excitationAfter (pos 7) (pos 0)) (negsuc 511)
     -- silk_sqrt_approx of −1, 0, 1, 16,777,216
     ∷ row (sqrtApprox (negsuc 0)) (pos 0)
     ∷ row (sqrtApprox (pos 0)) (pos 0)
@@ -106,33 +107,33 @@ bench =
     ∷ row (inverse32VarQ (pos 0) (pos 46)) (pos 2147483647)
     ∷ row (inverse32VarQ (pos 65536) (pos 46)) (pos 1073741823)
     -- order 1, coefficient 0; 4,094
-    ∷ row (gainOf (pos 0)) (pos 1073741824)
-    ∷ row (gainOf (pos 4094)) (pos 1048320)
+    ∷ row (inverseGainOf (pos 0)) (pos 1073741824)
+    ∷ row (inverseGainOf (pos 4094)) (pos 1048320)
     -- order 1, 4,095; −4,095; 4,096
-    ∷ row (gainOf (pos 4095)) (pos 0)
-    ∷ row (gainOf (negsuc 4094)) (pos 0)
-    ∷ row (gainOf (pos 4096)) (pos 0)
+    ∷ row (inverseGainOf (pos 4095)) (pos 0)
+    ∷ row (inverseGainOf (negsuc 4094)) (pos 0)
+    ∷ row (inverseGainOf (pos 4096)) (pos 0)
     -- tap sum 256; 358; 359
-    ∷ row (tapOf (pos 256)) (negsuc 4914)
-    ∷ row (tapOf (pos 358)) (negsuc 11443)
-    ∷ row (tapOf (pos 359)) (pos 11468)
+    ∷ row (tapAfter (pos 256)) (negsuc 4914)
+    ∷ row (tapAfter (pos 358)) (negsuc 11443)
+    ∷ row (tapAfter (pos 359)) (pos 11468)
     -- tap sum 11,469; 15,565; 15,566
-    ∷ row (tapOf (pos 11469)) (pos 11469)
-    ∷ row (tapOf (pos 15565)) (pos 15565)
-    ∷ row (tapOf (pos 15566)) (pos 15564)
+    ∷ row (tapAfter (pos 11469)) (pos 11469)
+    ∷ row (tapAfter (pos 15565)) (pos 15565)
+    ∷ row (tapAfter (pos 15566)) (pos 15564)
     -- 16 kHz, pitch 40,960, one loss, n = 4
-    ∷ row (pitchOf (pos 4) (pos 40960)) (pos 42620)
-    ∷ row (lagOf (pos 4) (pos 40960)) (pos 166)
+    ∷ row (pitchAfter (pos 4) (pos 40960)) (pos 42620)
+    ∷ row (lagAfter (pos 4) (pos 40960)) (pos 166)
     -- 16 kHz, pitch 73,728, one loss
-    ∷ row (pitchOf (pos 2) (pos 73728)) (pos 73728)
-    ∷ row (lagOf (pos 2) (pos 73728)) (pos 288)
-    ∷ row (pitchOf (pos 4) (pos 73728)) (pos 73728)
-    ∷ row (lagOf (pos 4) (pos 73728)) (pos 288)
+    ∷ row (pitchAfter (pos 2) (pos 73728)) (pos 73728)
+    ∷ row (lagAfter (pos 2) (pos 73728)) (pos 288)
+    ∷ row (pitchAfter (pos 4) (pos 73728)) (pos 73728)
+    ∷ row (lagAfter (pos 4) (pos 73728)) (pos 288)
     -- first and last noise line, order 10; 16
-    ∷ row (lineOf (pos 8) 0) (pos 2978)
-    ∷ row (lineOf (pos 8) 9) (pos 29780)
-    ∷ row (lineOf (pos 16) 0) (pos 1927)
-    ∷ row (lineOf (pos 16) 15) (pos 30832)
+    ∷ row (lineAfter (pos 8) 0) (pos 2978)
+    ∷ row (lineAfter (pos 8) 9) (pos 29780)
+    ∷ row (lineAfter (pos 16) 0) (pos 1927)
+    ∷ row (lineAfter (pos 16) 15) (pos 30832)
     -- mask at 80, 160, 240, 320
     ∷ row (pos (excMask 80)) (pos 63)
     ∷ row (pos (excMask 160)) (pos 127)
