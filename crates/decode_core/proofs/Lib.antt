@@ -9,3 +9,4 @@ pub mod Loop
 pub mod Frames
 pub mod Accepts
 pub mod Kept
+pub mod Standard

@@ -2,3 +2,4 @@
 pub mod Core
 pub mod Ready
 pub mod Answer
+pub mod Standard

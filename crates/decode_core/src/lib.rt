@@ -1,5 +1,5 @@
 // A received frame, from its excitation through long-term and short-term synthesis (decode_core.rs).
-// Inner: every function but silk_decode_core.
+// Inner: every function but silk_decode_core and core_excitation.
 use decoder::Params;
 use decoder::SilkDecoderControl;
 use decoder::SilkDecoderState;
@@ -43,6 +43,7 @@ ghost use Rattle.excitation.specs.Excitation.{offsetQ14, excitation};
 ghost use Rattle.sigproc.specs.Synthesis.{synthesis, played};
 ghost use Rattle.decode_core.specs.Core.{smoothed, refilled, ltpPast, ltpSynthesis, gainAdjustment, inverseGainQ31, rewhitens, controlAt, long, bufferAt, pastAt, subframe, subframes, settingOf, decodeCore};
 ghost use Rattle.decode_core.specs.Answer.{coreAnswer, coreOutput};
+ghost use Rattle.decode_core.specs.Standard.{CoreStandard};
 ghost use Rattle.decode_core.specs.Ready.{Ready, LongTerm, Playable, Framed, held, begin, Left};
 
 pub struct CoreAnswer {
@@ -580,3 +581,8 @@ pub fn silk_decode_core(
         control,
     }
 }
+
+// The excitation that core leaves in the state is 64 times RFC 6716's. The claim has no code: it is a contract.
+pub fn core_excitation()
+    ensures { λ _. ⌜ CoreStandard ⌝ }
+{}

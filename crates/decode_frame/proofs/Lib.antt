@@ -4,3 +4,4 @@ pub mod Finishing
 pub mod Heard
 pub mod Kept
 pub mod Noised
+pub mod Standard

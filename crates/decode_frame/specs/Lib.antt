@@ -2,3 +2,4 @@
 pub mod WholeFrame
 pub mod Call
 pub mod Answer
+pub mod Standard

@@ -31,6 +31,7 @@ ghost use Rattle.decode_core.specs.Ready.{Framed};
 ghost use Rattle.decode_frame.specs.WholeFrame.{remembered, finished, received, lost};
 ghost use Rattle.decode_frame.specs.Call.{frameCall};
 ghost use Rattle.decode_frame.specs.Answer.{frameAnswer, frameOutput};
+ghost use Rattle.decode_frame.specs.Standard.{FrameStandard};
 
 // Why a frame is turned down, or the new state and description.
 pub struct FrameAnswer {
@@ -234,3 +235,8 @@ pub fn silk_decode_frame(
     };
     received_frame(s, q, c, rows, lines, pulses, xq)
 }
+
+// The excitation that a received frame leaves in the state is 64 times RFC 6716's. The claim has no code: it is a contract.
+pub fn frame_excitation()
+    ensures { λ _. ⌜ FrameStandard ⌝ }
+{}

@@ -7,7 +7,7 @@ use native.Mathlib.Nat.{mod-eq-of-lt}
 use native.Mathlib.Omega.{arith}
 use borrow.Author.Tests.{lt-leb, le-leb, le-ltb}
 use lib.Dec.{leb, lit<}
-use lib.IntN.{ℤ, pos, negsuc, negℤ, _+ℤ_, _-ℤ_, _*ℤ_, +ℤ-comm, *ℤ-comm}
+use lib.IntN.{ℤ, pos, negsuc, natAbs, negℤ, _+ℤ_, _-ℤ_, _*ℤ_, +ℤ-comm, *ℤ-comm, pos-ne-negsuc}
 use lib.ListN.{getD}
 use lib.Signed.{ltZ}
 use mir.Syntax.{w32}
@@ -21,6 +21,7 @@ use Rattle.macros.specs.Fixed.{rand}
 use Rattle.macros.proofs.Ranges.{rand-fits}
 use Rattle.excitation.specs.Excitation.{offsetQ14, level, excited, generatorAt, excitation}
 use Rattle.excitation.specs.Rfc.{offsetQ23, sign, nextSeed, reconstructed, seedAt, excitationQ23}
+use Rattle.excitation.specs.Standard.{standard64}
 
 -- ---- the generator
 next-is : (g : ℤ) → nextSeed (modℤ g (2 ^ 32)) ≡ modℤ (rand g) (2 ^ 32)
@@ -101,11 +102,11 @@ sample-is o g p h =
     go false e = refl
 
 -- ---- the list
-pub is-standard : (voiced high : Bool) (pulses : List ℤ) (seed : ℤ) (n : ℕ)
+list-is : (voiced high : Bool) (seed : ℤ) (pulses : List ℤ) (n : ℕ)
     → excitation (offsetQ14 voiced (cond high (pos 1) (pos 0))) pulses seed n ≡ map (λ x. pos 64 *ℤ x) (excitationQ23 (offsetQ23 voiced high) pulses (modℤ seed (2 ^ 32)) n)
 unfolding excitation excitationQ23
-is-standard voiced high pulses seed zero = refl
-is-standard voiced high pulses seed (suc n) =
+list-is voiced high seed pulses zero = refl
+list-is voiced high seed pulses (suc n) =
     let o = offsetQ23 voiced high in
     let r = rand (generatorAt pulses seed n) in
     let p = getD pulses n (pos 0) in
@@ -113,5 +114,14 @@ is-standard voiced high pulses seed (suc n) =
     let q : s ≡ modℤ r (2 ^ 32) = ap nextSeed (seed-is pulses seed n) ∙ next-is (generatorAt pulses seed n) in
     let x : excited (offsetQ14 voiced (cond high (pos 1) (pos 0))) r p ≡ pos 64 *ℤ reconstructed o s p =
     ap (λ (z : ℤ). excited z r p) (offset-is voiced high) ∙ sample-is o r p (rand-fits _) ∙ ap (λ (k : ℕ). pos 64 *ℤ reconstructed o k p) (sym q) in
-    (λ i. is-standard voiced high pulses seed n i ++ x i ∷ [])
+    (λ i. list-is voiced high seed pulses n i ++ x i ∷ [])
     ∙ sym (map-append (λ z. pos 64 *ℤ z) (excitationQ23 o pulses (modℤ seed (2 ^ 32)) n) (reconstructed o s p ∷ []))
+
+-- for each of the two offset types
+pub is-standard : (voiced : Bool) (offsetType seed : ℤ) (pulses : List ℤ) (n : ℕ) → offsetType ≡ pos (natAbs offsetType) → natAbs offsetType ≤ 1
+    → excitation (offsetQ14 voiced offsetType) pulses seed n ≡ standard64 voiced offsetType seed pulses n
+unfolding standard64
+is-standard voiced (pos zero) seed pulses n e h = list-is voiced false seed pulses n
+is-standard voiced (pos (suc zero)) seed pulses n e h = list-is voiced true seed pulses n
+is-standard voiced (pos (suc (suc k))) seed pulses n e h = absurd (omega arith)
+is-standard voiced (negsuc k) seed pulses n e h = absurd (pos-ne-negsuc _ k (sym e))

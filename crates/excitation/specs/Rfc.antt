@@ -1,4 +1,4 @@
--- RFC 6716, 4.2.7.8.6: the excitation as the standard gives it (Q23). No other definition uses this file.
+-- RFC 6716, 4.2.7.8.6: the excitation as the standard gives it (Q23). Standard.antt alone uses this file.
 use Prim.Native.Nat.{ℕ, zero, suc, _+_, _*_, _%_, _^_}
 use mathlib.Core.Bool.{Bool, true, false, cond}
 use mathlib.Core.List.{List, [], _∷_, _++_}

@@ -1,0 +1,19 @@
+-- Demand 2: the excitation that a whole frame leaves in the state is 64 times RFC 6716's.
+use mathlib.Core.Path.{_≡_}
+use mathlib.Core.List.{List}
+use lib.IntN.{ℤ}
+use Rattle.refusal.specs.declared.Refusal.the-variants.{Nothing}
+use Rattle.decoder.specs.State.{shapeOf}
+use Rattle.decoder.specs.declared.SilkDecoderState.{SilkDecoderState}
+use Rattle.decoder.specs.declared.SilkDecoderControl.{SilkDecoderControl}
+use Rattle.decoder.specs.declared.Params.{Params}
+use Rattle.decoder.specs.declared.Frame.the-variants.{Received}
+use Rattle.decode_core.specs.Standard.{HoldsStandard}
+use Rattle.decode_frame.specs.Answer.{frameRefusal, frameAnswer}
+
+-- of every received frame that is accepted
+abbrev pub FrameStandard : Type 0
+FrameStandard =
+    (s : SilkDecoderState) (q : Params) (c : SilkDecoderControl) (rows : List (List ℤ)) (lines pulses output : List ℤ)
+    → frameRefusal s (Received q) c rows lines pulses output ≡ Nothing
+    → HoldsStandard (shapeOf s) q pulses (frameAnswer s (Received q) c rows lines pulses output .state)
