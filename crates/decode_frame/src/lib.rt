@@ -88,8 +88,8 @@ fn lost(s: SilkDecoderState, c: SilkDecoderControl, xq: &mut [i16]) -> Played
     let concealed = o.state;
     let control = o.control;
     let t = remembered(concealed, xq);
-    let state = finished(t, control, xq);
-    Played { state, control }
+    let u = finished(t, control, xq);
+    Played { state: u, control }
 }
 
 fn received(
