@@ -9,11 +9,12 @@ use Rattle.decoder.specs.declared.SilkDecoderControl.{SilkDecoderControl}
 use Rattle.decoder.specs.declared.Params.{Params}
 use Rattle.decoder.specs.declared.Frame.the-variants.{Received}
 use Rattle.decode_core.specs.Standard.{HoldsStandard}
+use Rattle.decode_frame.specs.Call.{frameCall}
 use Rattle.decode_frame.specs.Answer.{frameRefusal, frameAnswer}
 
 -- of every received frame that is accepted
 abbrev pub FrameStandard : Type 0
 FrameStandard =
     (s : SilkDecoderState) (q : Params) (c : SilkDecoderControl) (rows : List (List ℤ)) (lines pulses output : List ℤ)
-    → frameRefusal s (Received q) c rows lines pulses output ≡ Nothing
-    → HoldsStandard (shapeOf s) q pulses (frameAnswer s (Received q) c rows lines pulses output .state)
+    → frameRefusal s (frameCall (Received q) c rows lines pulses output) ≡ Nothing
+    → HoldsStandard (shapeOf s) q pulses (frameAnswer s (frameCall (Received q) c rows lines pulses output) .state)
