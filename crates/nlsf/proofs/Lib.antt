@@ -5,5 +5,6 @@ pub mod Rounds
 pub mod Accepted
 pub mod Results
 pub mod Lines
+pub mod Values
 pub mod Polynomials
 pub mod Bench

@@ -1,13 +1,13 @@
 -- The table and the cosines of lines.
-use Prim.Native.Nat.{ℕ, zero, suc, _*_, _<_, _≤_, zero-le, _/_}
+use Prim.Native.Nat.{ℕ, zero, suc, _-_, _*_, _<_, _≤_, zero-le, _/_}
 use mathlib.Core.Path.{_≡_, refl}
-use mathlib.Core.Bool.{Bool, true, false, _&&_, _||_}
+use mathlib.Core.Bool.{Bool, true, false, cond, _&&_, _||_}
 use mathlib.Core.List.{List, [], _∷_}
 use native.Mathlib.Nat.{mul-le-mul, le-antisymm, le-of-suc-le-suc, not-suc-le-zero}
 use native.Mathlib.Omega.{arith}
 use borrow.Author.Tests.{leb-true, ltb-true, ltb-false}
 use lib.Dec.{T, leb, ltb}
-use lib.IntN.{ℤ, pos, negsuc, natAbs, _+ℤ_, _-ℤ_, _*ℤ_}
+use lib.IntN.{ℤ, pos, negsuc, natAbs, negℤ, _+ℤ_, _-ℤ_, _*ℤ_}
 use lib.ListN.{getD}
 use lib.Signed.{ltZ, nonNeg, mag}
 use mir.Syntax.{w16, w32}
@@ -16,9 +16,9 @@ use Rattle.word.proofs.Rows.{neither}
 use Rattle.word.specs.Int.{wrap32}
 use Rattle.word.specs.Size.{Bounded}
 use Rattle.word.proofs.Rows.{both}
-use Rattle.word.proofs.Sizes.{abs-add, abs-sub, abs-mul, abs-fits}
+use Rattle.word.proofs.Sizes.{abs-add, abs-sub, abs-mul, abs-neg, abs-fits}
 use Rattle.word.proofs.Words.{wrap-id, wrap-add-l, wrap-add-r, wrap-mul-l}
-use Rattle.nlsf.specs.Table.{lsfCosTab, lsfCos}
+use Rattle.nlsf.specs.Table.{lsfCosHalf, lsfCos}
 use Rattle.nlsf.specs.Lines.{negativeLine, ordering16, ordering10}
 
 -- a test of every number of a list
@@ -32,9 +32,17 @@ within-bounded M [] e k = zero-le
 within-bounded M (x ∷ xs) e zero = leb-true (natAbs x) M (both (leb (natAbs x) M) (within M xs) e .0)
 within-bounded M (x ∷ xs) e (suc k) = within-bounded M xs (both (leb (natAbs x) M) (within M xs) e .1) k
 
+pub half-le : (i : ℕ) → natAbs (getD lsfCosHalf i (pos 0)) ≤ 8192
+unfolding lsfCosHalf within
+half-le i = within-bounded 8192 lsfCosHalf refl i
+
 pub lsfCos-le : (i : ℕ) → natAbs (lsfCos i) ≤ 8192
-unfolding lsfCos lsfCosTab within
-lsfCos-le i = within-bounded 8192 lsfCosTab refl i
+unfolding lsfCos
+lsfCos-le i = go (ltb 64 i)
+  where
+    go : (b : Bool) → natAbs (cond b (negℤ (getD lsfCosHalf (128 - i) (pos 0))) (getD lsfCosHalf i (pos 0))) ≤ 8192
+    go true = rw (abs-neg (getD lsfCosHalf (128 - i) (pos 0))) (half-le (128 - i))
+    go false = half-le i
 
 -- an interpolation between two entries stays in 32 bits
 pub interpolated : (x y : ℤ) (r : ℕ) → natAbs x ≤ 8192 → natAbs y ≤ 8192 → r < 256 → wrap32 (wrap32 (x *ℤ pos 256) +ℤ wrap32 (wrap32 (y -ℤ x) *ℤ pos r)) ≡ x *ℤ pos 256 +ℤ (y -ℤ x) *ℤ pos r

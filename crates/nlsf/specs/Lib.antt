@@ -1,5 +1,6 @@
 -- The definitions that the contracts cite.
 pub mod Table
+pub mod Values
 pub mod Lines
 pub mod Expand
 pub mod Fit

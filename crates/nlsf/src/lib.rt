@@ -1,5 +1,5 @@
 // The filter from line frequencies (nlsf.rs, lpc_fit.rs, tables.rs).
-// Inner: every function but silk_nlsf2a.
+// Inner: every function but silk_nlsf2a and lsf_cos_kept.
 mod tables;
 
 use macros::silk_rshift_round;
@@ -29,7 +29,8 @@ ghost use lib.ListN.{length, drop, replicate};
 ghost use lib.Signed.{ltZ};
 ghost use Rattle.word.specs.Int.{sat16};
 ghost use Rattle.word.specs.Tabulate.{tabulate};
-ghost use Rattle.nlsf.specs.Table.{lsfCosTab, lsfCos};
+ghost use Rattle.nlsf.specs.Table.{lsfCosHalf, lsfCos};
+ghost use Rattle.nlsf.specs.Values.{LsfCosKept};
 ghost use Rattle.nlsf.specs.Lines.{negativeLine, lsfCosine, ordering, cosines, timesFactor, poly, evenTerm, oddTerm, lpcCoefficient, lpcCoefficients};
 ghost use Rattle.nlsf.specs.Expand.{nextFactor, bwexpander32};
 ghost use Rattle.nlsf.specs.Fit.{higher, maxabs, fitChirp, inQ12, rounded, saturated, lpcFit};
@@ -41,19 +42,27 @@ struct Peak {
     place: usize,
 }
 
-fn lsf_cos_tab() -> [i16; 129]
-    ensures { λ r. ⌜ r ≡ lsfCosTab ⌝ }
+fn lsf_cos_half() -> [i16; 65]
+    ensures { λ r. ⌜ r ≡ lsfCosHalf ⌝ }
 {
     SILK_LSF_COS_TAB_FIX_Q12
 }
 
-// Entry i of the table.
-fn lsf_cos(tab: &[i16; 129], i: usize) -> i16
-    requires { ⌜ (now tab ≡ lsfCosTab) × (i ≤ 128) ⌝ }
+// Entry i of the table, above place 64 by its rule.
+fn lsf_cos(tab: &[i16; 65], i: usize) -> i16
+    requires { ⌜ (now tab ≡ lsfCosHalf) × (i ≤ 128) ⌝ }
     ensures { λ r. ⌜ r ≡ lsfCos i ⌝ }
 {
+    if i > 64 {
+        return low16(neg32(wide16(tab[128 - i])));
+    }
     tab[i]
 }
+
+// Every caller sees the 129 values that it saw while all of them stood in the table.
+pub fn lsf_cos_kept()
+    ensures { λ _. ⌜ LsfCosKept ⌝ }
+{}
 
 // A line as an unsigned number.
 fn unsigned(line: i16) -> usize
@@ -64,8 +73,8 @@ fn unsigned(line: i16) -> usize
 }
 
 // Twice the cosine of a line.
-fn lsf_cosine(tab: &[i16; 129], n: usize) -> i32
-    requires { ⌜ (now tab ≡ lsfCosTab) × (n < 32768) ⌝ }
+fn lsf_cosine(tab: &[i16; 65], n: usize) -> i32
+    requires { ⌜ (now tab ≡ lsfCosHalf) × (n < 32768) ⌝ }
     ensures { λ r. ⌜ r ≡ lsfCosine n ⌝ }
 {
     let f_int = n / 256;
@@ -110,7 +119,7 @@ fn cosines(nlsf: &[i16], d: usize) -> [i32; 16]
     requires { ⌜ ((d ≡ 10) ⊎ (d ≡ 16)) × (d ≤ length (now nlsf)) × (negativeLine (now nlsf) d ≡ false) ⌝ }
     ensures { λ r. ⌜ r ≡ cosines (now (nlsf .entry)) d d ⌝ }
 {
-    let tab = lsf_cos_tab();
+    let tab = lsf_cos_half();
     let mut c = zeros16();
     for k in 0..d {
         let place = ordering(d, k);
