@@ -1,6 +1,7 @@
 //! Hand-made cases: the ends of every range of document 01, and its test bench.
 
 use crate::call::{Call, Draft, LONG, SHORT, What};
+use crate::draw::{BETWEEN_10, BETWEEN_16};
 use crate::reference::read_state;
 use What::*;
 use given::silk::decoder_structs::SilkDecoderState;
@@ -297,12 +298,43 @@ fn bench(t: &mut Table) {
     stability(t, "order 1, 4,095", |d| (d.length, d.coefficients[0]) = (1, 4_095), |_, c| c.result[0] == 0);
     stability(t, "order 1, -4,095", |d| (d.length, d.coefficients[0]) = (1, -4_095), |_, c| c.result[0] == 0);
     stability(t, "order 1, 4,096", |d| (d.length, d.coefficients[0]) = (1, 4_096), |_, c| c.result[0] == 0);
-    stability(
-        t,
-        "order 2, 4,019, 76",
-        |d| (d.length, d.coefficients[0], d.coefficients[1]) = (2, 4_019, 76),
-        |_, c| c.result[0] == 533_892,
+    fn two(d: &mut Draft, first: i16, second: i16) {
+        (d.length, d.coefficients[0], d.coefficients[1]) = (2, first, second);
+    }
+    stability(t, "order 2, a step of 16,773,022", |d| two(d, 3_999, 96), |_, c| c.result[0] == 536_468);
+    stability(t, "order 2, a step of -16,773,022", |d| two(d, -3_999, 96), |_, c| c.result[0] == 536_468);
+    stability(t, "order 2, a step of 16,773,023", |d| two(d, 4_000, 95), |_, c| c.result[0] == 0);
+    stability(t, "order 2, a step of 16,773,043", |d| two(d, 4_019, 76), |_, c| c.result[0] == 0);
+    fn lines_10(d: &mut Draft, lines: [i16; 10]) {
+        d.length = 10;
+        d.lines[..10].copy_from_slice(&lines);
+    }
+    t.outcome(
+        Filter,
+        "lines at the limit, order 10",
+        0,
+        |d| lines_10(d, BETWEEN_10[0]),
+        |_, c| c.coefficients[..10] == [734, 1107, 1955, 1417, 918, 211, -371, -751, -652, -474],
     );
+    t.outcome(
+        Filter,
+        "other lines at the limit, order 10",
+        0,
+        |d| lines_10(d, BETWEEN_10[1]),
+        |_, c| c.coefficients[..10] == [6573, -2418, 1799, -5138, 5774, -2489, 790, -2713, 2724, -809],
+    );
+    t.outcome(
+        Filter,
+        "lines at the limit, order 16",
+        0,
+        |d| d.lines = BETWEEN_16,
+        |_, c| c.coefficients == [-1789, -2296, 296, 1092, -591, -997, -724, -757, 1114, 473, -976, -1259, -1578, -1156, 284, 115],
+    );
+    let noise = |d: &mut Draft| {
+        (d.dec.loss_cnt, d.dec.lag_prev, d.dec.s_cng.cng_smth_nlsf_q15) = (1, 100, BETWEEN_16);
+        (d.dec.s_cng.cng_smth_gain_q16, d.dec.s_cng.cng_exc_buf_q14) = (1 << 22, [1 << 20; 320]);
+    };
+    t.outcome(Noise, "noise of lines at the limit", 0, noise, |_, c| c.output[317] == 849);
     let lines = |d: &mut Draft| {
         d.lines = [30065, 6622, 25335, 1023, 28535, 943, 27848, 3878, 32165, 3214, 31194, 220, 25395, 8565, 30358, 2383];
     };

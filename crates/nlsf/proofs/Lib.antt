@@ -7,4 +7,3 @@ pub mod Results
 pub mod Lines
 pub mod Values
 pub mod Polynomials
-pub mod Bench

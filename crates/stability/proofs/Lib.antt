@@ -4,4 +4,4 @@ pub mod Steps
 pub mod Ends
 pub mod Turns
 pub mod Gains
-pub mod Bench
+pub mod Limits

