@@ -1,15 +1,17 @@
 /* The yard post's SILK back end: a frame's decoded parameters in, its samples out.
  *
- * `rt staticlib post` builds it (target/staticlib/libpost.a), for x86-64 Linux alone. It calls
- * memcpy and memset and nothing else, and has no variables of its own: calls on different states
- * may run at the same time. A call takes up to 25,880 bytes of stack (docs/BENCHMARKS.md).
+ * `rt staticlib post` builds it (target/staticlib/libpost.a), and `rt staticlib post_filters` the
+ * functions of filters (target/staticlib/libpost_filters.a); either archive may be linked alone.
+ * Both are for x86-64 Linux alone. They call memcpy and memset and nothing else, and have no
+ * variables of their own: calls on different states may run at the same time. A call takes up to
+ * 25,880 bytes of stack (docs/BENCHMARKS.md).
  *
  * A slice is a pointer and the count of its elements. The slices of one call may not overlap, not
  * even pulses and output: the proofs rest on it.
  *
  * Every function but post_played answers one of
  *     0           done
- *    -1           a slice is shorter than its POST_ size below, or result is empty
+ *    -1           a slice is shorter than its POST_ size below
  *     1 to 13     the first refusal that applies (enum post_refusal)
  * of which -1 comes first. Pulses, output, buffer, coefficients and the lines of post_filter have no
  * such size: 10 to 13 say that they are too short. A call that does not answer 0 writes nothing. One
@@ -61,7 +63,9 @@ enum {
     POST_CONTROL = 9,
     POST_TAPS = 20,
     POST_ROWS = 32,
-    POST_LINES = 16
+    POST_LINES = 16,
+    POST_ANSWER = 2,
+    POST_TEXT = 64
 };
 
 /* The samples of the longest frame; pulses and output need no more, and 5rn are enough. */
@@ -132,10 +136,28 @@ int32_t post_noise(int32_t *words, size_t words_len, int16_t *halves, size_t hal
                    const int32_t *control, size_t control_len, const int16_t *taps, size_t taps_len,
                    int16_t *buffer, size_t buffer_len, size_t length);
 
-/* The inverse gain, Q30, of a filter's first order coefficients, Q12, into result; 0 if it is not
- * stable. Refused by 13. */
+/* The functions of filters, in libpost_filters.a. */
+
+/* The stability test of a filter's first order coefficients, Q12. Its answer is one of these and a
+ * value: the inverse gain, Q30, or the number of the step, which is the place of its coefficient,
+ * from 0. The sum is tested first; then, from the last coefficient to the first, a step's
+ * coefficient, its gain, and whether the step leaves 32 bits. */
+enum post_stability_answer {
+    POST_STABLE = 0,            /* the value is the inverse gain, 107,374 to 1,073,741,824 */
+    POST_SUM_LARGE = 1,         /* the coefficients add up to 4,096 or more; the value is 0 */
+    POST_COEFFICIENT_LARGE = 2, /* a step's coefficient, Q24, is above 16,773,022 in size */
+    POST_GAIN_SMALL = 3,        /* the gain, Q30, is below 107,374 after a step */
+    POST_STEP_OVERFLOW = 4      /* a step leaves 32 bits */
+};
+
+/* The answer's number and its value. Refused by 13. */
 int32_t post_stability(const int16_t *coefficients, size_t coefficients_len, size_t order,
-                       int32_t *result, size_t result_len);
+                       int32_t *answer, size_t answer_len);
+
+/* The answer as a sentence in ASCII, with zeros behind it up to POST_TEXT bytes: fixed words, and but
+ * for the sum one number. No two answers share a sentence. Refused by 13. */
+int32_t post_sentence(const int16_t *coefficients, size_t coefficients_len, size_t order,
+                      uint8_t *text, size_t text_len);
 
 /* The first order coefficients, Q12, of the filter from as many line frequencies, Q15. Refused by 13,
  * then by 9. */

@@ -6,16 +6,18 @@ set -eu
 SILK_SOURCES=$(cd "$1" && pwd)
 top=$(cd "$(dirname "$0")/.." && pwd)
 target=$top/target/compare
-unset POST_LIBRARY
+unset POST_LIBRARIES
 if [ "${2:-}" = --self ]; then
     target=$target/self
-elif grep -q '^post:' "$top/crates.txt"; then
+else
     mkdir -p "$target"
     log=$target/staticlib.log
-    echo 'compare: rt staticlib post proves and builds the library' >&2
-    (cd "$top" && rt staticlib post) >"$log" 2>&1 || { cat "$log" >&2; exit 1; }
-    POST_LIBRARY=$top/target/staticlib/libpost.a
-    export POST_LIBRARY
+    for crate in post post_filters; do
+        echo "compare: rt staticlib $crate proves and builds the library" >&2
+        (cd "$top" && rt staticlib "$crate") >"$log" 2>&1 || { cat "$log" >&2; exit 1; }
+        POST_LIBRARIES=${POST_LIBRARIES:+$POST_LIBRARIES:}$top/target/staticlib/lib$crate.a
+    done
+    export POST_LIBRARIES
 fi
 export SILK_SOURCES
 cargo build --quiet --release --jobs 1 --manifest-path "$top/compare/Cargo.toml" --target-dir "$target" >&2

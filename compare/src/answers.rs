@@ -1,7 +1,9 @@
-//! A fixed list of calls with the Rust's answers, which the program crates/replay makes again without the Rust.
+//! A fixed list of calls with the Rust's answers, which the program crates/replay makes again without the Rust; and the sentences that the
+//! program crates/service must write.
 
 use crate::call::{self, Call, Draft, What};
 use crate::draw::{self, Draw, SHAPES};
+use crate::post::Stability;
 use crate::reference::{STOP, STOPPED, read_state};
 use crate::{rows, streams};
 use std::fmt::Write;
@@ -53,6 +55,26 @@ struct List {
     stdin: String,
     stdout: String,
     calls: u64,
+}
+
+/// What the program crates/service writes for a line that is none of coefficients.
+const BAD_LINE: &str = "bad line: it is to have one to sixteen whole numbers of sixteen bits";
+
+/// Writes, from the Rust, what the program crates/service must write for its standard input.
+pub fn write_sentences(folder: &Path) -> Result<(), String> {
+    let input = fs::read_to_string(folder.join("stdin")).map_err(|why| format!("stdin: {why}"))?;
+    let whole = |word: &str| word.trim_start_matches('-').bytes().all(|byte| byte.is_ascii_digit());
+    let mut output = String::new();
+    for line in input.lines() {
+        let words = line.split([' ', '\t', '\r', ',']).filter(|word| !word.is_empty());
+        let read: Option<Vec<i16>> = words.map(|word| word.parse().ok().filter(|_| whole(word))).collect();
+        let text = match read {
+            Some(a) if (1..=16).contains(&a.len()) => Stability::of(given::reason(&a, a.len())).to_string(),
+            _ => BAD_LINE.into(),
+        };
+        writeln!(output, "{text}").unwrap();
+    }
+    fs::write(folder.join("stdout"), output).map_err(|why| format!("stdout: {why}"))
 }
 
 /// Writes the program's standard input and, from the Rust, what it must write.
@@ -109,7 +131,7 @@ impl List {
             What::Received | What::Core => [call.signal, call.offset, call.interpolation, call.seed].map(i64::from).to_vec(),
             What::PlcReceived => [call.signal, call.offset, call.interpolation, 0].map(i64::from).to_vec(),
             What::Lost | What::PlcLost => vec![0; 4],
-            What::Glue | What::Noise | What::Stability | What::Filter => {
+            What::Glue | What::Noise | What::Stability | What::Filter | What::Sentence => {
                 call.length = call.length.min(u32::MAX as usize);
                 vec![call.length as u32 as i32 as i64, 0, 0, 0]
             }
@@ -260,10 +282,10 @@ impl List {
         self.make(draft.call()).map(|_| ())
     }
 
-    /// The hand-made rows: of calls that play a frame, those that are refused.
+    /// The hand-made rows: of calls that play a frame, those that are refused; not the sentences, which the other program writes.
     fn rows(&mut self) -> Result<(), String> {
         self.title("the ends of the ranges");
-        for row in rows::all() {
+        for row in rows::all().into_iter().filter(|row| row.what != What::Sentence) {
             let mut call = row.call();
             let whole = matches!(row.what, What::Received | What::Lost | What::Core | What::PlcLost);
             if !whole || call::reference(&mut call) != 0 {

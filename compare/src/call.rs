@@ -17,12 +17,14 @@ pub enum What {
     Played,
     Stability,
     Filter,
+    Sentence,
 }
 
 impl What {
     /// Each function, its name without `post_`, and whether the library has it.
-    pub const ALL: [(What, &'static str, bool); 11] = [
+    pub const ALL: [(What, &'static str, bool); 12] = [
         (What::Stability, "stability", cfg!(has_stability)),
+        (What::Sentence, "sentence", cfg!(has_sentence)),
         (What::Filter, "filter", cfg!(has_filter)),
         (What::Core, "core", cfg!(has_core)),
         (What::PlcReceived, "plc_received", cfg!(has_plc_received)),
@@ -67,7 +69,7 @@ impl Draft {
     pub fn plain(what: What, rate: i32, subframes: i32) -> Draft {
         let frame = (5 * rate * subframes) as usize;
         let control = SilkDecoderControl { pitch_l: [2 * rate; 4], gains_q16: [81_920; 4], ..Default::default() };
-        let filter = matches!(what, What::Stability | What::Filter);
+        let filter = matches!(what, What::Stability | What::Sentence | What::Filter);
         Draft {
             what,
             rate,
@@ -87,7 +89,8 @@ impl Draft {
         use What::*;
         let what = self.what;
         let takes = |all: &[What]| all.contains(&what);
-        let (state, control) = (!takes(&[Played, Stability, Filter]), takes(&[Received, Lost, Core, PlcReceived, PlcLost, Noise]));
+        let (state, control) =
+            (!takes(&[Played, Stability, Sentence, Filter]), takes(&[Received, Lost, Core, PlcReceived, PlcLost, Noise]));
         let indices = self.dec.indices;
         let mut call = Call {
             what,
@@ -106,8 +109,9 @@ impl Draft {
             lines: if takes(&[Received, Filter]) { self.lines.to_vec() } else { vec![] },
             pulses: if takes(&[Received, Core]) { self.pulses } else { vec![] },
             output: if takes(&[Received, Lost, Core, PlcLost, Glue, Noise, Played]) { self.output } else { vec![] },
-            coefficients: if takes(&[Stability, Filter]) { self.coefficients } else { vec![] },
-            result: if takes(&[Stability]) { vec![0] } else { vec![] },
+            coefficients: if takes(&[Stability, Sentence, Filter]) { self.coefficients } else { vec![] },
+            result: vec![0; if takes(&[Stability]) { reference::ANSWER } else { 0 }],
+            text: vec![0; if takes(&[Sentence]) { reference::TEXT } else { 0 }],
         };
         if state {
             reference::write_state(&mut self.dec, &mut call.words, &mut call.halves);
@@ -139,13 +143,19 @@ pub struct Call {
     pub output: Vec<i16>,
     pub coefficients: Vec<i16>,
     pub result: Vec<i32>,
+    pub text: Vec<u8>,
 }
 
 /// A slice of a call: its name, itself, and the size that it must have, or 0 where the call's numbers say it.
 pub type Slice<T> = (&'static str, fn(&mut Call) -> &mut Vec<T>, usize);
 
-pub const LONG: [Slice<i32>; 3] =
-    [("words", |c| &mut c.words, reference::WORDS), ("control", |c| &mut c.control, reference::CONTROL), ("result", |c| &mut c.result, 1)];
+pub const LONG: [Slice<i32>; 3] = [
+    ("words", |c| &mut c.words, reference::WORDS),
+    ("control", |c| &mut c.control, reference::CONTROL),
+    ("result", |c| &mut c.result, reference::ANSWER),
+];
+
+pub const BYTES: [Slice<u8>; 1] = [("text", |c| &mut c.text, reference::TEXT)];
 
 pub const SHORT: [Slice<i16>; 7] = [
     ("halves", |c| &mut c.halves, reference::HALVES),
@@ -174,6 +184,7 @@ pub fn reference(c: &mut Call) -> i32 {
         What::Noise => post_noise(words, halves, control, taps, output, c.length),
         What::Played => post_played(c.rate, c.subframes, output),
         What::Stability => post_stability(&c.coefficients, c.length, &mut c.result),
+        What::Sentence => post_sentence(&c.coefficients, c.length, &mut c.text),
         What::Filter => post_filter(&mut c.coefficients, &c.lines, c.length),
     }
 }
@@ -233,6 +244,9 @@ pub fn written(call: &Call, plain: &Call) -> String {
         slice(&mut text, name, get(&mut call), get(&mut plain));
     }
     for (name, get, _) in SHORT {
+        slice(&mut text, name, get(&mut call), get(&mut plain));
+    }
+    for (name, get, _) in BYTES {
         slice(&mut text, name, get(&mut call), get(&mut plain));
     }
     text

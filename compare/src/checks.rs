@@ -1,6 +1,6 @@
 //! The comparisons: each function on drawn calls, lists of frames, streams.
 
-use crate::call::{self, Call, Draft, LONG, SHORT, What, place, written};
+use crate::call::{self, BYTES, Call, Draft, LONG, SHORT, What, place, written};
 use crate::draw::{self, Draw, SHAPES};
 use crate::reference::{STOP, STOPPED, read_state};
 use crate::shrink::shrink;
@@ -50,6 +50,9 @@ impl Options {
             differs = differs.or_else(|| first(name, get(&mut rust), get(&mut library)));
         }
         for (name, get, _) in SHORT {
+            differs = differs.or_else(|| first(name, get(&mut rust), get(&mut library)));
+        }
+        for (name, get, _) in BYTES {
             differs = differs.or_else(|| first(name, get(&mut rust), get(&mut library)));
         }
         differs.map_or(Ok((expected, rust)), Err)

@@ -23,6 +23,7 @@ unsafe extern "C" {
         control: *const i32, control_len: usize, taps: *const i16, taps_len: usize, buffer: *mut i16, buffer_len: usize, length: usize) -> i32;
     fn post_played(rate: i32, subframes: i32, output: *const i16, output_len: usize) -> i32;
     fn post_stability(coefficients: *const i16, coefficients_len: usize, order: usize, result: *mut i32, result_len: usize) -> i32;
+    fn post_sentence(coefficients: *const i16, coefficients_len: usize, order: usize, text: *mut u8, text_len: usize) -> i32;
     fn post_filter(coefficients: *mut i16, coefficients_len: usize, lines: *const i16, lines_len: usize, order: usize) -> i32;
 }
 
@@ -50,6 +51,7 @@ pub fn call(c: &mut Call) -> i32 {
             What::Noise => post_noise(words.0, words.1, halves.0, halves.1, control.0, control.1, taps.0, taps.1, output.0, output.1, c.length),
             What::Played => post_played(c.rate, c.subframes, output.0, output.1),
             What::Stability => post_stability(c.coefficients.as_ptr(), c.coefficients.len(), c.length, c.result.as_mut_ptr(), c.result.len()),
+            What::Sentence => post_sentence(c.coefficients.as_ptr(), c.coefficients.len(), c.length, c.text.as_mut_ptr(), c.text.len()),
             What::Filter => post_filter(c.coefficients.as_mut_ptr(), c.coefficients.len(), lines.0, lines.1, c.length),
         }
     }

@@ -3,5 +3,6 @@
 mod missing;
 
 pub use missing::range_coder;
+pub use missing::reason;
 
 include!(concat!(env!("OUT_DIR"), "/given.rs"));

@@ -39,7 +39,12 @@ fn main() -> ExitCode {
             bench::bench(Path::new(folder), options.contains(&"--self"), options.contains(&"--time")).map(|()| true)
         }
         ["record", from, to] => streams::record(Path::new(from), Path::new(to)).map(|()| true),
-        ["answers", streams, folder] => answers::write(Path::new(streams), Path::new(folder)).map(|()| true),
+        ["answers", streams, crates] => {
+            let crates = Path::new(crates);
+            answers::write_sentences(&crates.join("service"))
+                .and_then(|()| answers::write(Path::new(streams), &crates.join("replay")))
+                .map(|()| true)
+        }
         ["count", folder, shape] => bench::count(Path::new(folder), shape).map(|()| true),
         _ => Err(USAGE.into()),
     });

@@ -79,6 +79,12 @@ unsafe extern "C" fn post_stability(a: Shorts, an: usize, order: usize, r: Longs
     unsafe { reference::post_stability(part(a, an), order, part_mut(r, rn)) }
 }
 
+#[cfg(not(has_sentence))]
+#[unsafe(no_mangle)]
+unsafe extern "C" fn post_sentence(a: Shorts, an: usize, order: usize, t: *mut u8, tn: usize) -> i32 {
+    unsafe { reference::post_sentence(part(a, an), order, part_mut(t, tn)) }
+}
+
 #[cfg(not(has_filter))]
 #[unsafe(no_mangle)]
 unsafe extern "C" fn post_filter(a: Shorts, an: usize, l: Shorts, ln: usize, order: usize) -> i32 {

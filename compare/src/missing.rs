@@ -24,6 +24,24 @@ pub fn silk_lpc_analysis_filter(out: &mut [i16], input: &[i16], b: &[i16], len: 
     }
 }
 
+thread_local! {
+    static WHY: std::cell::Cell<(u8, usize)> = const { std::cell::Cell::new((0, 0)) };
+}
+
+/// Keeps why the stability test answers 0.
+pub fn because(number: u8, step: usize) -> i32 {
+    WHY.set((number, step));
+    0
+}
+
+/// The stability test's answer: 0 and the inverse gain, or the number of the return that was reached and its step.
+pub fn reason(a_q12: &[i16], order: usize) -> [i32; 2] {
+    let gain = crate::silk::lpc_reasons::silk_lpc_inverse_pred_gain(a_q12, order);
+    assert_eq!(gain, crate::silk::lpc_analysis::silk_lpc_inverse_pred_gain(a_q12, order));
+    let (number, step) = WHY.get();
+    if gain == 0 { [number as i32, step as i32] } else { [0, gain] }
+}
+
 pub mod range_coder {
     use crate::silk::decoder_structs::SilkDecoderControl;
     use crate::silk::structs::SideInfoIndices;

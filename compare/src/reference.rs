@@ -1,12 +1,13 @@
 //! Every function of the library as the given Rust would have it: document 01's rows, then the Rust's own stage or frame.
 
-pub use crate::post::ffi::{CONTROL, HALVES, LINES, ROWS, TAPS, WORDS};
+use crate::post::Stability;
+pub use crate::post::ffi::{ANSWER, CONTROL, HALVES, LINES, ROWS, TAPS, TEXT, WORDS};
 use given::range_coder::RangeCoder;
+use given::reason;
 use given::silk::cng::silk_cng;
 use given::silk::decode_core::silk_decode_core;
 use given::silk::decode_frame::{FLAG_DECODE_NORMAL, FLAG_PACKET_LOST, silk_decode_frame};
 use given::silk::decoder_structs::{SilkDecoderControl, SilkDecoderState};
-use given::silk::lpc_analysis::silk_lpc_inverse_pred_gain;
 use given::silk::nlsf::silk_nlsf2a;
 use given::silk::plc::{silk_plc, silk_plc_glue_frames};
 use given::silk::structs::SideInfoIndices;
@@ -400,11 +401,27 @@ pub fn post_played(rate: i32, subframes: i32, output: &[i16]) -> i32 {
     judge_shape(rate, subframes).map_or(0, |()| played(5 * rate * subframes))
 }
 
+/// Row 13 of the stability test.
+fn judge_order(coefficients: &[i16], order: usize) -> Judged {
+    unless(13, (1..=16).contains(&order) && order <= coefficients.len())
+}
+
 pub fn post_stability(coefficients: &[i16], order: usize, result: &mut [i32]) -> i32 {
     answer(|| {
-        judge_sizes(&[(result.len(), 1)])?;
-        unless(13, (1..=16).contains(&order) && order <= coefficients.len())?;
-        result[0] = run(|| silk_lpc_inverse_pred_gain(coefficients, order))?;
+        judge_sizes(&[(result.len(), ANSWER)])?;
+        judge_order(coefficients, order)?;
+        result[..ANSWER].copy_from_slice(&run(|| reason(coefficients, order))?);
+        Ok(())
+    })
+}
+
+pub fn post_sentence(coefficients: &[i16], order: usize, text: &mut [u8]) -> i32 {
+    answer(|| {
+        judge_sizes(&[(text.len(), TEXT)])?;
+        judge_order(coefficients, order)?;
+        let sentence = Stability::of(run(|| reason(coefficients, order))?).to_string();
+        text[..TEXT].fill(0);
+        text[..sentence.len()].copy_from_slice(sentence.as_bytes());
         Ok(())
     })
 }

@@ -1,6 +1,6 @@
 //! Hand-made cases: the ends of every range of document 01, and its test bench.
 
-use crate::call::{Call, Draft, LONG, SHORT, What};
+use crate::call::{BYTES, Call, Draft, LONG, SHORT, What};
 use crate::draw::{BETWEEN_10, BETWEEN_16};
 use crate::reference::read_state;
 use What::*;
@@ -26,7 +26,8 @@ impl Row {
             return Err(format!("answered {answer}, not {}", self.answer));
         }
         let same = LONG.iter().all(|(_, get, _)| get(&mut before) == get(&mut after))
-            && SHORT.iter().all(|(_, get, _)| get(&mut before) == get(&mut after));
+            && SHORT.iter().all(|(_, get, _)| get(&mut before) == get(&mut after))
+            && BYTES.iter().all(|(_, get, _)| get(&mut before) == get(&mut after));
         if answer != 0 && !same {
             return Err("something was changed".into());
         }
@@ -274,13 +275,15 @@ fn lengths(t: &mut Table) {
         t.add(what, "length above the buffer", 12, |d| d.output.truncate(319));
         t.add(what, "history before length", 3, |d| (d.dec.loss_cnt, d.length) = (-1, 0));
     }
-    t.add(Stability, "order 0", 13, |d| d.length = 0);
-    t.add(Stability, "order 17", 13, |d| {
-        d.length = 17;
-        d.coefficients.resize(20, 0);
-    });
-    t.add(Stability, "15 coefficients", 13, |d| d.coefficients.truncate(15));
-    t.add(Stability, "order at the top", 13, |d| d.length = usize::MAX);
+    for what in [Stability, Sentence] {
+        t.add(what, "order 0", 13, |d| d.length = 0);
+        t.add(what, "order 17", 13, |d| {
+            d.length = 17;
+            d.coefficients.resize(20, 0);
+        });
+        t.add(what, "15 coefficients", 13, |d| d.coefficients.truncate(15));
+        t.add(what, "order at the top", 13, |d| d.length = usize::MAX);
+    }
     t.add(Filter, "order 16", 0, |_| {});
     t.add(Filter, "order 12", 13, |d| d.length = 12);
     t.add(Filter, "15 coefficients", 13, |d| d.coefficients.truncate(15));
@@ -293,18 +296,23 @@ fn bench(t: &mut Table) {
     fn stability(t: &mut Table, label: &str, change: fn(&mut Draft), holds: fn(&SilkDecoderState, &Call) -> bool) {
         t.outcome(Stability, label, 0, change, holds);
     }
-    stability(t, "order 1, 0", |d| d.length = 1, |_, c| c.result[0] == 1_073_741_824);
-    stability(t, "order 1, 4,094", |d| (d.length, d.coefficients[0]) = (1, 4_094), |_, c| c.result[0] == 1_048_320);
-    stability(t, "order 1, 4,095", |d| (d.length, d.coefficients[0]) = (1, 4_095), |_, c| c.result[0] == 0);
-    stability(t, "order 1, -4,095", |d| (d.length, d.coefficients[0]) = (1, -4_095), |_, c| c.result[0] == 0);
-    stability(t, "order 1, 4,096", |d| (d.length, d.coefficients[0]) = (1, 4_096), |_, c| c.result[0] == 0);
+    stability(t, "order 1, 0", |d| d.length = 1, |_, c| c.result == [0, 1_073_741_824]);
+    stability(t, "order 1, 4,094", |d| (d.length, d.coefficients[0]) = (1, 4_094), |_, c| c.result == [0, 1_048_320]);
+    stability(t, "order 1, 4,095", |d| (d.length, d.coefficients[0]) = (1, 4_095), |_, c| c.result == [2, 0]);
+    stability(t, "order 1, -4,095", |d| (d.length, d.coefficients[0]) = (1, -4_095), |_, c| c.result == [2, 0]);
+    stability(t, "order 1, 4,096", |d| (d.length, d.coefficients[0]) = (1, 4_096), |_, c| c.result == [1, 0]);
     fn two(d: &mut Draft, first: i16, second: i16) {
         (d.length, d.coefficients[0], d.coefficients[1]) = (2, first, second);
     }
-    stability(t, "order 2, a step of 16,773,022", |d| two(d, 3_999, 96), |_, c| c.result[0] == 536_468);
-    stability(t, "order 2, a step of -16,773,022", |d| two(d, -3_999, 96), |_, c| c.result[0] == 536_468);
-    stability(t, "order 2, a step of 16,773,023", |d| two(d, 4_000, 95), |_, c| c.result[0] == 0);
-    stability(t, "order 2, a step of 16,773,043", |d| two(d, 4_019, 76), |_, c| c.result[0] == 0);
+    stability(t, "order 2, a step of 16,773,022", |d| two(d, 3_999, 96), |_, c| c.result == [0, 536_468]);
+    stability(t, "order 2, a step of -16,773,022", |d| two(d, -3_999, 96), |_, c| c.result == [0, 536_468]);
+    stability(t, "order 2, a step of 16,773,023", |d| two(d, 4_000, 95), |_, c| c.result == [2, 0]);
+    stability(t, "order 2, a step of 16,773,043", |d| two(d, 4_019, 76), |_, c| c.result == [2, 0]);
+    stability(t, "order 2, the sum before the coefficient", |d| two(d, 1, 4_095), |_, c| c.result == [1, 0]);
+    stability(t, "order 2, the first step's coefficient", |d| two(d, 0, -4_095), |_, c| c.result == [2, 1]);
+    stability(t, "order 2, the last step's gain", |d| two(d, -7_771, -3_677), |_, c| c.result == [3, 0]);
+    stability(t, "order 2, a step to -2^31", |d| two(d, -256, 4_094), |_, c| c.result == [2, 0]);
+    stability(t, "order 2, a step beyond 32 bits", |d| two(d, -257, 4_094), |_, c| c.result == [4, 1]);
     fn lines_10(d: &mut Draft, lines: [i16; 10]) {
         d.length = 10;
         d.lines[..10].copy_from_slice(&lines);

@@ -1,6 +1,6 @@
 //! A smaller call that still fails: every number is moved towards that of a plain call.
 
-use crate::call::{Call, Draft, LONG, SHORT};
+use crate::call::{BYTES, Call, Draft, LONG, SHORT};
 use crate::draw::{Number, SHAPES};
 use crate::reference::{read_state, write_state};
 
@@ -15,6 +15,9 @@ pub fn shrink(mut call: Call, fails: impl Fn(&Call) -> bool) -> (Call, Call) {
             changed |= slice(&mut call, get(&mut plain), get, &fails);
         }
         for (_, get, _) in SHORT {
+            changed |= slice(&mut call, get(&mut plain), get, &fails);
+        }
+        for (_, get, _) in BYTES {
             changed |= slice(&mut call, get(&mut plain), get, &fails);
         }
         if !changed {

@@ -14,6 +14,10 @@ pub const TAPS: usize = 20;
 pub const ROWS: usize = 32;
 /// Line frequencies.
 pub const LINES: usize = 16;
+/// The stability test's answer: its number and its value.
+pub const ANSWER: usize = 2;
+/// The bytes of a sentence.
+pub const TEXT: usize = 64;
 
 unsafe extern "C" {
     fn post_set_up(rate: i32, subframes: i32, words: *mut i32, words_len: usize, halves: *mut i16, halves_len: usize) -> i32;
@@ -45,7 +49,12 @@ unsafe extern "C" {
         control: *const i32, control_len: usize, taps: *const i16, taps_len: usize, buffer: *mut i16, buffer_len: usize, length: usize,
     ) -> i32;
     fn post_played(rate: i32, subframes: i32, output: *const i16, output_len: usize) -> i32;
-    fn post_stability(coefficients: *const i16, coefficients_len: usize, order: usize, result: *mut i32, result_len: usize) -> i32;
+}
+
+#[cfg(feature = "filters")]
+unsafe extern "C" {
+    fn post_stability(coefficients: *const i16, coefficients_len: usize, order: usize, answer: *mut i32, answer_len: usize) -> i32;
+    fn post_sentence(coefficients: *const i16, coefficients_len: usize, order: usize, text: *mut u8, text_len: usize) -> i32;
     fn post_filter(coefficients: *mut i16, coefficients_len: usize, lines: *const i16, lines_len: usize, order: usize) -> i32;
 }
 
@@ -142,12 +151,21 @@ pub fn played(rate: i32, subframes: i32, output: &[i16]) -> i32 {
 }
 
 /// `post_stability`.
-pub fn stability(coefficients: &[i16], order: usize, result: &mut [i32]) -> i32 {
+#[cfg(feature = "filters")]
+pub fn stability(coefficients: &[i16], order: usize, answer: &mut [i32]) -> i32 {
     // SAFETY: each pointer is lent with its own slice's length, for the call alone.
-    unsafe { post_stability(coefficients.as_ptr(), coefficients.len(), order, result.as_mut_ptr(), result.len()) }
+    unsafe { post_stability(coefficients.as_ptr(), coefficients.len(), order, answer.as_mut_ptr(), answer.len()) }
+}
+
+/// `post_sentence`.
+#[cfg(feature = "filters")]
+pub fn sentence(coefficients: &[i16], order: usize, text: &mut [u8]) -> i32 {
+    // SAFETY: each pointer is lent with its own slice's length, for the call alone.
+    unsafe { post_sentence(coefficients.as_ptr(), coefficients.len(), order, text.as_mut_ptr(), text.len()) }
 }
 
 /// `post_filter`.
+#[cfg(feature = "filters")]
 pub fn filter(coefficients: &mut [i16], lines: &[i16], order: usize) -> i32 {
     // SAFETY: each pointer is lent with its own slice's length, for the call alone.
     unsafe { post_filter(coefficients.as_mut_ptr(), coefficients.len(), lines.as_ptr(), lines.len(), order) }

@@ -2,7 +2,8 @@
 //!
 //! [`Post`] owns a decoder's state. A frame is played by [`Post::received`] or [`Post::lost`]; one that the
 //! back end turns down leaves the state, the description and the output as they were. A call takes up to 25,880
-//! bytes of stack. The library, which `rt staticlib post` builds or POST_LIBRARY names, is for x86-64 Linux alone.
+//! bytes of stack. The library, which `rt staticlib post` builds or POST_LIBRARY names, is for x86-64 Linux alone. With the feature `filters`,
+//! which is on unless it is turned off, `rt staticlib post_filters` builds the functions of filters: [`stability`], [`sentence`] and [`filter`].
 //!
 //! ```
 //! use post::{Description, Params, Post};
@@ -23,6 +24,12 @@
 #[allow(unsafe_code)]
 #[rustfmt::skip]
 pub mod ffi;
+
+#[cfg(feature = "filters")]
+mod filters;
+
+#[cfg(feature = "filters")]
+pub use filters::{Sentence, Stability, filter, sentence, stability};
 
 use core::fmt;
 
@@ -263,16 +270,4 @@ impl Post {
 pub fn played(rate: i32, subframes: i32, output: &mut [i16]) -> &mut [i16] {
     let count = ffi::played(rate, subframes, output);
     &mut output[..count as usize]
-}
-
-/// The inverse gain (Q30) of a filter's first `order` coefficients (Q12), 0 if it is not stable.
-pub fn stability(coefficients: &[i16], order: usize) -> Result<i32, Refusal> {
-    let mut result = [0];
-    answered(ffi::stability(coefficients, order, &mut result))?;
-    Ok(result[0])
-}
-
-/// The first `order` coefficients (Q12) of a filter from line frequencies (Q15).
-pub fn filter(coefficients: &mut [i16], lines: &[i16], order: usize) -> Result<(), Refusal> {
-    answered(ffi::filter(coefficients, lines, order))
 }

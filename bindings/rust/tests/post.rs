@@ -1,6 +1,6 @@
 //! The binding over the linked library.
 
-use post::{Description, Params, Post, Refusal, filter, played, stability};
+use post::{Description, Params, Post, Refusal, Stability, filter, played, sentence, stability};
 
 /// The place of the count of losses in the state's words.
 const LOSS_CNT: usize = 345;
@@ -89,10 +89,18 @@ fn played_part() {
 
 #[test]
 fn filters() {
-    assert_eq!([0, 4_094, 4_095].map(|first| stability(&[first], 1).unwrap()), [1_073_741_824, 1_048_320, 0]);
+    use Stability::{Coefficient, Gain, Overflow, Stable, Sum};
+    let told = [Stable(1_073_741_824), Stable(1_048_320), Coefficient(0), Coefficient(0), Sum];
+    assert_eq!([0, 4_094, 4_095, -4_095, 4_096].map(|first| stability(&[first], 1).unwrap()), told);
+    assert_eq!(stability(&[-6, 0, 4_093], 3), Ok(Gain(1)));
+    assert_eq!(stability(&[-257, 4_094], 2), Ok(Overflow(1)));
+    assert_eq!(sentence(&[0; 16], 0), Err(Refusal::Order));
+    for filter in [[0, 0, 0], [4_096, 0, 0], [0, -4_095, 0], [-6, 0, 4_093], [-257, 4_094, 0]] {
+        assert_eq!(stability(&filter, 3).unwrap().to_string(), sentence(&filter, 3).unwrap().as_str());
+    }
     let lines: Vec<i16> = (1..=10).map(|k| 2_978 * k).collect();
     let mut coefficients = [9; 16];
     filter(&mut coefficients, &lines, 10).unwrap();
-    assert!(stability(&coefficients, 10).unwrap() > 0);
+    assert!(matches!(stability(&coefficients, 10), Ok(Stable(_))));
     assert_eq!(coefficients[10..], [9; 6]);
 }

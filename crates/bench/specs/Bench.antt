@@ -7,7 +7,7 @@ use lib.ListN.{getD, length, replicate}
 use Rattle.word.specs.Row.{Row, row}
 use Rattle.macros.specs.Fixed.{rand, sqrtApprox}
 use Rattle.macros.specs.Quotient.{inverse32VarQ}
-use Rattle.stability.specs.Stability.{inversePredGainOf}
+use Rattle.stability.specs.Stability.{answerNumber, answerValue, tested}
 use Rattle.shape.specs.Shape.{frameLength}
 use Rattle.decoder.specs.State.{shapeOf}
 use Rattle.decoder.specs.SetUp.{setUp}
@@ -47,9 +47,12 @@ excitationAfter seed pulse =
     let q : Params = record { signal = Voiced; «quant_offset_type» = pos 0; «nlsf_interp_coef_q2» = pos 4; seed = seed } in
     getD (decodeCore (shapeOf s) s q (description (pos 0)) rows (pulse ∷ replicate 319 (pos 0)) .state .«exc_q14») 0 (pos 0)
 
--- the inverse gain of a filter of order 1
-abbrev inverseGainOf : ℤ → ℤ
-inverseGainOf a = inversePredGainOf (a ∷ []) 1 .«inv_gain_q30»
+-- the answer of the stability test to a filter of order 1: document 02's number, and the inverse gain or the step
+abbrev reasonOf : ℤ → ℤ
+reasonOf a = pos (answerNumber (tested (a ∷ []) 1 .answer))
+
+abbrev valueOf : ℤ → ℤ
+valueOf a = answerValue (tested (a ∷ []) 1 .answer)
 
 -- the middle tap that concealment holds after a voiced frame, by its sum of taps
 abbrev tapAfter : ℤ → ℤ
@@ -107,12 +110,17 @@ bench =
     ∷ row (inverse32VarQ (pos 0) (pos 46)) (pos 2147483647)
     ∷ row (inverse32VarQ (pos 65536) (pos 46)) (pos 1073741823)
     -- order 1, coefficient 0; 4,094
-    ∷ row (inverseGainOf (pos 0)) (pos 1073741824)
-    ∷ row (inverseGainOf (pos 4094)) (pos 1048320)
-    -- order 1, 4,095; −4,095; 4,096
-    ∷ row (inverseGainOf (pos 4095)) (pos 0)
-    ∷ row (inverseGainOf (negsuc 4094)) (pos 0)
-    ∷ row (inverseGainOf (pos 4096)) (pos 0)
+    ∷ row (reasonOf (pos 0)) (pos 0)
+    ∷ row (valueOf (pos 0)) (pos 1073741824)
+    ∷ row (reasonOf (pos 4094)) (pos 0)
+    ∷ row (valueOf (pos 4094)) (pos 1048320)
+    -- order 1, 4,095; −4,095; 4,096 (document 02, Note 7: coefficient 0; coefficient 0; sum)
+    ∷ row (reasonOf (pos 4095)) (pos 2)
+    ∷ row (valueOf (pos 4095)) (pos 0)
+    ∷ row (reasonOf (negsuc 4094)) (pos 2)
+    ∷ row (valueOf (negsuc 4094)) (pos 0)
+    ∷ row (reasonOf (pos 4096)) (pos 1)
+    ∷ row (valueOf (pos 4096)) (pos 0)
     -- tap sum 256; 358; 359
     ∷ row (tapAfter (pos 256)) (negsuc 4914)
     ∷ row (tapAfter (pos 358)) (negsuc 11443)

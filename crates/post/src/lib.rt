@@ -16,12 +16,11 @@ use layout::put_halves;
 use layout::put_words;
 use layout::rows_in;
 use layout::state_in;
-use nlsf::silk_nlsf2a;
 use plc::conceal::silk_plc_lost;
 use plc::update::silk_plc_received;
 use refusal::Refusal;
+use refusal::code;
 use refusal::number;
-use stability::silk_lpc_inverse_pred_gain;
 ghost use mathlib.Core.Path.{_≡_};
 ghost use mathlib.Core.Bool.{_||_};
 ghost use mathlib.Core.List.{[]};
@@ -43,46 +42,11 @@ ghost use Rattle.decode_frame.specs.Answer.{frameAnswer, frameOutput};
 ghost use Rattle.decoder.specs.declared.Frame.the-variants.{Received, Lost};
 ghost use Rattle.post.specs.Calls.{numberOf, newWords, newHalves, newControl, newTaps, samples};
 ghost use Rattle.post.specs.Stages.{paramsOf, setUpCall, glueCall, noiseCall, lostBy, plcLostCall, plcReceivedCall, coreBy, coreCall, frameLostBy, frameLostCall, frameReceivedBy, frameReceivedCall};
-ghost use Rattle.nlsf.specs.Filter.{nlsf2aRefusal, nlsf2aOf};
-ghost use Rattle.post.specs.Filters.{stabilityAnswer, stabilityResult};
-
-// Document 01's number of a refusal, as the exported functions answer it.
-fn code(r: Refusal) -> i32
-    ensures { λ n. ⌜ n ≡ pos (refusalNumber r) ⌝ }
-{
-    number(r) as i32
-}
 
 fn accepted(r: Refusal) -> bool
     ensures { λ b. ⌜ b ≡ eqb (refusalNumber r) 0 ⌝ }
 {
     number(r) == 0
-}
-
-#[no_mangle]
-pub extern "C" fn post_stability(coefficients: &[i16], order: usize, result: &mut [i32]) -> i32
-    ensures { λ r. ⌜ (r ≡ stabilityAnswer (now (coefficients .entry)) order (now (result .entry)))
-        × (now (result .exit) ≡ stabilityResult (now (coefficients .entry)) order (now (result .entry))) ⌝ }
-{
-    if result.len() < 1 {
-        return -1;
-    }
-    let a = silk_lpc_inverse_pred_gain(coefficients, order);
-    let refusal = a.refusal;
-    let gain = a.inv_gain_q30;
-    if !accepted(refusal) {
-        return code(refusal);
-    }
-    result[0] = gain;
-    0
-}
-
-#[no_mangle]
-pub extern "C" fn post_filter(coefficients: &mut [i16], lines: &[i16], order: usize) -> i32
-    ensures { λ r. ⌜ (r ≡ pos (refusalNumber (nlsf2aRefusal (length (now (coefficients .entry))) (now (lines .entry)) order)))
-        × (now (coefficients .exit) ≡ nlsf2aOf (now (coefficients .entry)) (now (lines .entry)) order) ⌝ }
-{
-    code(silk_nlsf2a(coefficients, lines, order))
 }
 
 // Words or halves that are too few for a state.

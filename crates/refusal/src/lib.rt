@@ -2,6 +2,7 @@
 // Inner: every function.
 ghost use mathlib.Core.Path.{_≡_};
 ghost use mathlib.Core.Bool.{cond};
+ghost use lib.IntN.{pos};
 ghost use Rattle.refusal.specs.Refusals.{refusalNumber, refusalWord, textOf};
 
 pub enum Refusal {
@@ -41,6 +42,13 @@ pub fn number(r: Refusal) -> u8
         Refusal::Length => 12,
         Refusal::Order => 13,
     }
+}
+
+// The number as an exported function answers it.
+pub fn code(r: Refusal) -> i32
+    ensures { λ n. ⌜ n ≡ pos (refusalNumber r) ⌝ }
+{
+    number(r) as i32
 }
 
 // A word of up to eight letters, with zeros after them.

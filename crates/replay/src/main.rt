@@ -383,7 +383,7 @@ fn stability(l: Lent, row: [i32; 64]) -> Called {
     let coefficients = l.coefficients;
     let mut result = l.result;
     let order = size(row[1]);
-    let answer = post::post_stability(
+    let answer = post_filters::post_stability(
         front16(&coefficients, row[13]),
         order,
         first32(&mut result, row[14]),
@@ -397,7 +397,7 @@ fn filter(l: Lent, row: [i32; 64]) -> Called {
     let mut coefficients = l.coefficients;
     let lines = l.lines;
     let order = size(row[1]);
-    let answer = post::post_filter(
+    let answer = post_filters::post_filter(
         first16(&mut coefficients, row[13]),
         front16(&lines, row[10]),
         order,

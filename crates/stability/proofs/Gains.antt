@@ -18,7 +18,9 @@ use Rattle.word.proofs.Parts.{eq-parts, sub-parts-ℤ}
 use Rattle.word.proofs.Sizes.{abs-fits, fits-abs}
 use Rattle.word.proofs.Words.{wrap-id, wrap-fits}
 use Rattle.macros.specs.Fixed.{smmul}
-use Rattle.stability.specs.Stability.{Edition, rfc8251, sum, coefficient, gain, overflow, Stability, stable, unstable, reflection, rcMult1, nextGain, nextCoefficients, goesOn, step, andThen, steps, total, aLimit, stabilityBy, stability, inverseGain}
+use Rattle.stability.specs.Stability.{Edition, rfc8251, reflection, rcMult1, nextGain, nextCoefficients, goesOn, step, andThen, steps, total, aLimit, stabilityBy, stability, inverseGain}
+use Rattle.stability.specs.declared.Stability.{Stability}
+use Rattle.stability.specs.declared.Stability.the-variants.{Stable, Sum, Coefficient, Gain, Overflow}
 
 -- z is a number from 0 to B
 abbrev UpTo : ℕ → ℤ → Type 0
@@ -55,18 +57,21 @@ gain-range rc g f u =
     (q * 2 ^ 2, rw (u .1, m .1, smmul-pos (u .0) (m .0) (omega arith)) (kept-pos (q * 2 ^ 2) (omega arith)), omega arith)
 
 -- a gain that passed its test
-abbrev Gain : ℤ → Type 0
-Gain g = (n : ℕ) × (g ≡ pos n) × (107374 ≤ n) × (n ≤ 2 ^ 30)
+abbrev Passed : ℤ → Type 0
+Passed g = (n : ℕ) × (g ≡ pos n) × (107374 ≤ n) × (n ≤ 2 ^ 30)
 
 abbrev Ranged : Stability → Type 0
-Ranged (stable g) = Gain g
-Ranged (unstable i) = Unit
+Ranged (Stable g) = Passed g
+Ranged Sum = Unit
+Ranged (Coefficient k) = Unit
+Ranged (Gain k) = Unit
+Ranged (Overflow k) = Unit
 
 step-ranged : (limit : ℕ) (a g : ℤ) (k : ℕ) → UpTo (2 ^ 30) g → Ranged (step limit a g k)
 unfolding step reflection
 step-ranged limit a g k u = go (ltb limit (natAbs a)) (ltZ (nextGain (reflection a) g) (pos 107374)) refl (gain-range (reflection a) g (wrap-fits w32 _) u)
   where
-    go : (b t : Bool) → ltZ (nextGain (reflection a) g) (pos 107374) ≡ t → UpTo (2 ^ 30) (nextGain (reflection a) g) → Ranged (cond b (unstable (coefficient k)) (cond t (unstable (gain k)) (stable (nextGain (reflection a) g))))
+    go : (b t : Bool) → ltZ (nextGain (reflection a) g) (pos 107374) ≡ t → UpTo (2 ^ 30) (nextGain (reflection a) g) → Ranged (cond b (Coefficient k) (cond t (Gain k) (Stable (nextGain (reflection a) g))))
     go true t e v = tt
     go false true e v = tt
     go false false e v =
@@ -75,8 +80,11 @@ step-ranged limit a g k u = go (ltb limit (natAbs a)) (ltZ (nextGain (reflection
 
 then-ranged : (s : Stability) (f : ℤ → Stability) → Ranged s → ((x : ℤ) → UpTo (2 ^ 30) x → Ranged (f x)) → Ranged (andThen s f)
 unfolding andThen
-then-ranged (stable g) f h k = k g (h .0, h .1, h .3)
-then-ranged (unstable i) f h k = tt
+then-ranged (Stable g) f h k = k g (h .0, h .1, h .3)
+then-ranged Sum f h k = tt
+then-ranged (Coefficient j) f h k = tt
+then-ranged (Gain j) f h k = tt
+then-ranged (Overflow j) f h k = tt
 
 steps-ranged : (limit : ℕ) (e : Edition) (a : List ℤ) (g : ℤ) (k : ℕ) → UpTo (2 ^ 30) g → Ranged (steps limit e a g k)
 unfolding steps
@@ -85,7 +93,7 @@ steps-ranged limit e a g (suc k) u =
     then-ranged (step limit (getD a (suc k) (pos 0)) g (suc k)) _ (step-ranged limit (getD a (suc k) (pos 0)) g (suc k) u)
     (λ x v. go (goesOn e (nextCoefficients a (suc k))) x (steps-ranged limit e (map wrap32 (nextCoefficients a (suc k))) x k v))
   where
-    go : (b : Bool) (x : ℤ) → Ranged (steps limit e (map wrap32 (nextCoefficients a (suc k))) x k) → Ranged (cond b (steps limit e (map wrap32 (nextCoefficients a (suc k))) x k) (unstable (overflow (suc k))))
+    go : (b : Bool) (x : ℤ) → Ranged (steps limit e (map wrap32 (nextCoefficients a (suc k))) x k) → Ranged (cond b (steps limit e (map wrap32 (nextCoefficients a (suc k))) x k) (Overflow (suc k)))
     go true x h = h
     go false x h = tt
 
@@ -93,14 +101,17 @@ whole-ranged : (limit : ℕ) (e : Edition) (a : List ℤ) → Ranged (stabilityB
 unfolding stabilityBy
 whole-ranged limit e a = go (leZ (pos 4096) (total a (length a))) _ (steps-ranged limit e _ (pos (2 ^ 30)) (length a - 1) (2 ^ 30, refl, le-refl (2 ^ 30)))
   where
-    go : (b : Bool) (s : Stability) → Ranged s → Ranged (cond b (unstable sum) s)
+    go : (b : Bool) (s : Stability) → Ranged s → Ranged (cond b Sum s)
     go true s h = tt
     go false s h = h
 
 number : (s : Stability) → Ranged s → (n : ℕ) × (inverseGain s ≡ pos n) × (n ≤ 2 ^ 30) × ((n ≡ 0) ⊎ (107374 ≤ n))
 unfolding inverseGain
-number (stable g) h = (h .0, h .1, h .3, inr (h .2))
-number (unstable i) h = (0, refl, omega arith, inl refl)
+number (Stable g) h = (h .0, h .1, h .3, inr (h .2))
+number Sum h = (0, refl, omega arith, inl refl)
+number (Coefficient k) h = (0, refl, omega arith, inl refl)
+number (Gain k) h = (0, refl, omega arith, inl refl)
+number (Overflow k) h = (0, refl, omega arith, inl refl)
 
 -- the inverse gain is 0, or from 107,374 to 2 ^ 30
 pub inverse-gain-by : (limit : ℕ) (e : Edition) (a : List ℤ) → (n : ℕ) × (inverseGain (stabilityBy limit e a) ≡ pos n) × (n ≤ 2 ^ 30) × ((n ≡ 0) ⊎ (107374 ≤ n))

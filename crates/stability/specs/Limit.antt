@@ -3,11 +3,13 @@ use Prim.Native.Nat.{ℕ, _≤_}
 use mathlib.Core.Path.{_≡_}
 use mathlib.Core.List.{List}
 use lib.IntN.{ℤ}
-use Rattle.stability.specs.Stability.{Edition, Stability, unstable, coefficient, stabilityBy}
+use Rattle.stability.specs.Stability.{Edition, stabilityBy}
+use Rattle.stability.specs.declared.Stability.{Stability}
+use Rattle.stability.specs.declared.Stability.the-variants.{Coefficient}
 
 -- the answer is not a step's coefficient
 abbrev pub Within : Stability → Type 0
-Within s = (k : ℕ) → s ≡ unstable (coefficient k) → ⊥
+Within s = (k : ℕ) → s ≡ Coefficient k → ⊥
 
 -- of two limits, an answer under the lower that is not a step's coefficient is the higher's too
 abbrev pub SameAnswer : Type 0

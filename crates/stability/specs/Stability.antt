@@ -11,19 +11,25 @@ use Rattle.word.specs.Tabulate.{tabulate}
 use Rattle.macros.specs.Fixed.{smmul, clz32, rshiftRound64}
 use Rattle.macros.specs.Quotient.{inverse32VarQ}
 use Rattle.refusal.specs.declared.Refusal.the-variants.{Nothing, Order}
-use Rattle.stability.specs.declared.InverseGain.{InverseGain}
+use Rattle.stability.specs.declared.Stability.{Stability}
+use Rattle.stability.specs.declared.Stability.the-variants.{Stable, Sum, Coefficient, Gain, Overflow}
+use Rattle.stability.specs.declared.Tested.{Tested}
 
--- why a filter has no inverse gain; k is the place of the step's coefficient, from 0
-pub data Instability : Type 0 where
-  sum : Instability
-  coefficient : (k : ℕ) → Instability
-  gain : (k : ℕ) → Instability
-  overflow : (k : ℕ) → Instability
+-- document 02, Note 7, in its order: 0 is the inverse gain, 1 the sum, 2 a step's coefficient, 3 its gain, 4 a step beyond 32 bits
+unfoldable pub answerNumber : Stability → ℕ
+answerNumber (Stable g) = 0
+answerNumber Sum = 1
+answerNumber (Coefficient k) = 2
+answerNumber (Gain k) = 3
+answerNumber (Overflow k) = 4
 
--- a filter's inverse gain (Q30), or why there is none
-pub data Stability : Type 0 where
-  stable : ℤ → Stability
-  unstable : Instability → Stability
+-- the inverse gain (Q30), or the number of the step: the place of its coefficient, from 0; the sum has none
+unfoldable pub answerValue : Stability → ℤ
+answerValue (Stable g) = g
+answerValue Sum = pos 0
+answerValue (Coefficient k) = pos k
+answerValue (Gain k) = pos k
+answerValue (Overflow k) = pos k
 
 -- what a step beyond 32 bits does: RFC 6716 as first published keeps the low 32 and goes on, RFC 8251 ends the test
 pub data Edition : Type 0 where
@@ -90,20 +96,23 @@ goesOn rfc8251 xs = allFit xs
 -- the two tests of a step at place k: its coefficient's size, then the gain after it
 unfoldable pub step : ℕ → ℤ → ℤ → ℕ → Stability
 step limit a g k =
-    cond (ltb limit (natAbs a)) (unstable (coefficient k))
-    (cond (ltZ (nextGain (reflection a) g) (pos 107374)) (unstable (gain k)) (stable (nextGain (reflection a) g)))
+    cond (ltb limit (natAbs a)) (Coefficient k)
+    (cond (ltZ (nextGain (reflection a) g) (pos 107374)) (Gain k) (Stable (nextGain (reflection a) g)))
 
 -- what follows a step whose tests passed
 unfoldable pub andThen : Stability → (ℤ → Stability) → Stability
-andThen (stable g) f = f g
-andThen (unstable i) f = unstable i
+andThen (Stable g) f = f g
+andThen Sum f = Sum
+andThen (Coefficient k) f = Coefficient k
+andThen (Gain k) f = Gain k
+andThen (Overflow k) f = Overflow k
 
 -- the steps at the places k to 0, from coefficients a (Q24) and gain g
 unfoldable pub steps : ℕ → Edition → List ℤ → ℤ → ℕ → Stability
 steps limit e a g zero = step limit (getD a 0 (pos 0)) g 0
 steps limit e a g (suc k) =
     andThen (step limit (getD a (suc k) (pos 0)) g (suc k))
-    (λ h. cond (goesOn e (nextCoefficients a (suc k))) (steps limit e (map wrap32 (nextCoefficients a (suc k))) h k) (unstable (overflow (suc k))))
+    (λ h. cond (goesOn e (nextCoefficients a (suc k))) (steps limit e (map wrap32 (nextCoefficients a (suc k))) h k) (Overflow (suc k)))
 
 -- the first n numbers of a list, added up
 unfoldable pub total : List ℤ → ℕ → ℤ
@@ -113,7 +122,7 @@ total a (suc n) = total a n +ℤ getD a n (pos 0)
 -- the whole test of coefficients a (Q12)
 unfoldable pub stabilityBy : ℕ → Edition → List ℤ → Stability
 stabilityBy limit e a =
-    cond (leZ (pos 4096) (total a (length a))) (unstable sum)
+    cond (leZ (pos 4096) (total a (length a))) Sum
     (steps limit e (map (λ x. x *ℤ pos (2 ^ 12)) a) (pos (2 ^ 30)) (length a - 1))
 
 -- the test with RFC 6716's limit and RFC 8251's end
@@ -122,15 +131,18 @@ stability a = stabilityBy aLimit rfc8251 a
 
 -- the inverse gain as a number, 0 if there is none
 unfoldable pub inverseGain : Stability → ℤ
-inverseGain (stable g) = g
-inverseGain (unstable i) = pos 0
+inverseGain (Stable g) = g
+inverseGain Sum = pos 0
+inverseGain (Coefficient k) = pos 0
+inverseGain (Gain k) = pos 0
+inverseGain (Overflow k) = pos 0
 
--- row 13: an order d not 1 to 16, or a slice shorter than it
-abbrev pub orderRefused : List ℤ → ℕ → Bool
-orderRefused a d = ltb d 1 || ltb 16 d || ltb (length a) d
+-- row 13: an order d not 1 to 16, or a slice of n numbers shorter than it
+abbrev pub orderRefused : ℕ → ℕ → Bool
+orderRefused n d = ltb d 1 || ltb 16 d || ltb n d
 
--- the stability test as a call, of the first d coefficients
-unfoldable pub inversePredGainOf : List ℤ → ℕ → InverseGain
-inversePredGainOf a d =
-    cond (orderRefused a d) (record { refusal = Order; «inv_gain_q30» = pos 0 })
-    (record { refusal = Nothing; «inv_gain_q30» = inverseGain (stability (take d a)) })
+-- the stability test as a call, of the first d coefficients; refused, its answer is a gain of 0, which no filter has
+unfoldable pub tested : List ℤ → ℕ → Tested
+tested a d =
+    cond (orderRefused (length a) d) (record { refusal = Order; answer = Stable (pos 0) })
+    (record { refusal = Nothing; answer = stability (take d a) })

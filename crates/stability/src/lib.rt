@@ -20,15 +20,48 @@ ghost use Prim.Native.Nat.{_-_, _≤_, _<_, _^_};
 ghost use lib.IntN.{pos, _*ℤ_};
 ghost use lib.ListN.{length, take, drop, replicate};
 ghost use Rattle.word.specs.Int.{wrap32};
-ghost use Rattle.stability.specs.Stability.{aLimit, rfc8251, reflection, rcMult1, nextGain, bitLength, mulQ, rcMult2, stepDown, stepped, nextCoefficients, fits32, allFit, step, steps, total, stability, inverseGain, inversePredGainOf};
+ghost use Rattle.stability.specs.Stability.{aLimit, rfc8251, reflection, rcMult1, nextGain, bitLength, mulQ, rcMult2, stepDown, stepped, nextCoefficients, fits32, allFit, step, steps, total, stability, inverseGain, tested, answerNumber, answerValue};
 ghost use Rattle.stability.specs.Limit.{SameAnswer};
 
 const A_LIMIT: i32 = 16773022;
 
-// The inverse gain (Q30) of a filter, 0 if it has none or the call is refused.
-pub struct InverseGain {
+// A filter's inverse gain (Q30), or why there is none, with the place of the step's coefficient.
+pub enum Stability {
+    Stable(i32),
+    Sum,
+    Coefficient(u8),
+    Gain(u8),
+    Overflow(u8),
+}
+
+// The answer of the test as a call.
+pub struct Tested {
     pub refusal: Refusal,
-    pub inv_gain_q30: i32,
+    pub answer: Stability,
+}
+
+pub fn answer_number(s: Stability) -> u8
+    ensures { λ r. ⌜ r ≡ answerNumber s ⌝ }
+{
+    match s {
+        Stability::Stable(_) => 0,
+        Stability::Sum => 1,
+        Stability::Coefficient(_) => 2,
+        Stability::Gain(_) => 3,
+        Stability::Overflow(_) => 4,
+    }
+}
+
+pub fn answer_value(s: Stability) -> i32
+    ensures { λ r. ⌜ r ≡ answerValue s ⌝ }
+{
+    match s {
+        Stability::Stable(g) => g,
+        Stability::Sum => 0,
+        Stability::Coefficient(k) => k as i32,
+        Stability::Gain(k) => k as i32,
+        Stability::Overflow(k) => k as i32,
+    }
 }
 
 fn reflection(a: i32) -> i32
@@ -80,21 +113,21 @@ fn step_down(rc: i32, mult2: i32, q: i32, x: i32, y: i32) -> i64
     silk_rshift_round64(silk_smull(sub32(x, mul_q(y, rc, 31)), mult2), q)
 }
 
-// The gain after a step, 0 if one of its tests fails.
-fn step_gain(a: i32, gain: i32) -> i32
-    ensures { λ r. ⌜ r ≡ inverseGain (step aLimit a gain 0) ⌝ }
+// The two tests of the step at place k.
+fn step(a: i32, gain: i32, k: u8) -> Stability
+    ensures { λ r. ⌜ r ≡ step aLimit a gain k ⌝ }
 {
     if a > A_LIMIT {
-        return 0;
+        return Stability::Coefficient(k);
     }
     if a < -A_LIMIT {
-        return 0;
+        return Stability::Coefficient(k);
     }
     let next = next_gain(reflection(a), gain);
     if next < 107374 {
-        return 0;
+        return Stability::Gain(k);
     }
-    next
+    Stability::Stable(next)
 }
 
 // The coefficients below place k after a step, in place from both ends; whether all are numbers of 32 bits.
@@ -127,24 +160,25 @@ fn next_coefficients(a: &mut [i32], k: usize) -> bool
 }
 
 // The steps from the last coefficient (Q24) to the first.
-fn lpc_inverse_pred_gain_qa(a0: [i32; 16], order: usize) -> i32
+fn lpc_inverse_pred_gain_qa(a0: [i32; 16], order: usize) -> Stability
     requires { ⌜ (1 ≤ order) × (order ≤ 16) ⌝ }
-    ensures { λ r. ⌜ r ≡ inverseGain (steps aLimit rfc8251 a0 (pos (2 ^ 30)) (order - 1)) ⌝ }
+    ensures { λ r. ⌜ r ≡ steps aLimit rfc8251 a0 (pos (2 ^ 30)) (order - 1) ⌝ }
 {
     let mut a = a0;
     let mut gain = 1073741824;
     let mut k = order - 1;
     while k > 0 {
-        gain = step_gain(a[k], gain);
-        if gain == 0 {
-            return 0;
+        let s = step(a[k], gain, k as u8);
+        if answer_number(s) != 0 {
+            return s;
         }
+        gain = answer_value(s);
         if !next_coefficients(&mut a, k) {
-            return 0;
+            return Stability::Overflow(k as u8);
         }
         k -= 1;
     }
-    step_gain(a[0], gain)
+    step(a[0], gain, 0)
 }
 
 // The coefficients added up.
@@ -177,15 +211,27 @@ fn in_qa(a: &[i16], order: usize) -> [i32; 16]
     a_qa
 }
 
-// The inverse gain of the first order coefficients, for callers whose order is in range.
+// The test of the first order coefficients, for callers whose order is in range.
+pub fn stable_or_why(a: &[i16], order: usize) -> Stability
+    requires { ⌜ (1 ≤ order) × (order ≤ 16) × (order ≤ length (now a)) ⌝ }
+    ensures { λ r. ⌜ r ≡ stability (take order (now (a .entry))) ⌝ }
+{
+    if dc_resp(a, order) >= 4096 {
+        return Stability::Sum;
+    }
+    lpc_inverse_pred_gain_qa(in_qa(a, order), order)
+}
+
+// Its inverse gain alone, 0 if there is none.
 pub fn inverse_pred_gain(a: &[i16], order: usize) -> i32
     requires { ⌜ (1 ≤ order) × (order ≤ 16) × (order ≤ length (now a)) ⌝ }
     ensures { λ r. ⌜ r ≡ inverseGain (stability (take order (now (a .entry)))) ⌝ }
 {
-    if dc_resp(a, order) >= 4096 {
+    let s = stable_or_why(a, order);
+    if answer_number(s) != 0 {
         return 0;
     }
-    lpc_inverse_pred_gain_qa(in_qa(a, order), order)
+    answer_value(s)
 }
 
 // A lower limit changes no answer but those that become a step's coefficient.
@@ -194,17 +240,17 @@ pub fn same_answer()
 {}
 
 // The stability test as a call.
-pub fn silk_lpc_inverse_pred_gain(a_q12: &[i16], order: usize) -> InverseGain
-    ensures { λ r. ⌜ r ≡ inversePredGainOf (now («a_q12» .entry)) order ⌝ }
+pub fn silk_lpc_inverse_pred_gain(a_q12: &[i16], order: usize) -> Tested
+    ensures { λ r. ⌜ r ≡ tested (now («a_q12» .entry)) order ⌝ }
 {
     if order < 1 || order > 16 || order > a_q12.len() {
-        return InverseGain {
+        return Tested {
             refusal: Refusal::Order,
-            inv_gain_q30: 0,
+            answer: Stability::Stable(0),
         };
     }
-    InverseGain {
+    Tested {
         refusal: Refusal::Nothing,
-        inv_gain_q30: inverse_pred_gain(a_q12, order),
+        answer: stable_or_why(a_q12, order),
     }
 }

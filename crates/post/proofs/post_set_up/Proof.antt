@@ -14,7 +14,6 @@ use Rattle.post.proofs.post_set_up.Tie as tie
 use Rattle.post.proofs.post_set_up.Reads as reads
 use Rattle.post.proofs.post_set_up.Lts as lts
 use Rattle.decoder.proofs.set_up.Reads as set-up-reads
-use Rattle.post.proofs.code.Reads as code-reads
 use Rattle.post.proofs.keep_state.Reads as keep-state-reads
 use Rattle.post.proofs.short_state.Reads as short-state-reads
 

@@ -1,0 +1,5 @@
+-- The laws of this crate.
+pub mod Digits
+pub mod Texts
+pub mod Answers
+pub mod Apart
