@@ -1,10 +1,13 @@
 -- How a state and a description lie in the slices that a program lends: each number in its own type, arrays whole.
 use Prim.Native.Nat.{ℕ}
+use mathlib.Core.Path.{_≡_}
 use mathlib.Core.Bool.{Bool, _||_}
 use mathlib.Core.List.{List, [], _∷_, _++_}
 use lib.Dec.{ltb}
 use lib.IntN.{ℤ, pos}
 use lib.ListN.{getD, length, take, drop}
+use Rattle.sigproc.specs.Place.{putAt}
+use Rattle.decoder.specs.Typed.{Typed}
 use Rattle.decoder.specs.declared.SilkCNGState.{SilkCNGState}
 use Rattle.decoder.specs.declared.SilkPLCState.{SilkPLCState}
 use Rattle.decoder.specs.declared.SilkDecoderState.{SilkDecoderState}
@@ -17,9 +20,15 @@ part xs at n = take n (drop at xs)
 abbrev pub one : List ℤ → ℕ → ℤ
 one xs at = getD xs at (pos 0)
 
--- 696 words and 535 halves hold a state
+-- the numbers of a state, in 32 and in 16 bits
+abbrev pub WORDS : ℕ
+WORDS = 696
+
+abbrev pub HALVES : ℕ
+HALVES = 535
+
 unfoldable pub shortState : List ℤ → List ℤ → Bool
-shortState words halves = ltb (length words) 696 || ltb (length halves) 535
+shortState words halves = ltb (length words) WORDS || ltb (length halves) HALVES
 
 unfoldable pub cngIn : List ℤ → List ℤ → SilkCNGState
 cngIn words halves =
@@ -106,6 +115,11 @@ stateHalves s =
     let h = s .«s_plc» in
     s .«out_buf» ++ s .«prev_nlsf_q15» ++ h .«ltp_coef_q14» ++ h .«prev_lpc_q12» ++ (h .«rand_scale_q14» ∷ h .«prev_ltp_scale_q14» ∷ [])
     ++ s .«s_cng» .«cng_smth_nlsf_q15»
+
+-- a state that is put is the state that is read
+abbrev pub StateStored : Type 0
+StateStored =
+    (words halves : List ℤ) (s : SilkDecoderState) → Typed s → stateIn (putAt words 0 (stateWords s)) (putAt halves 0 (stateHalves s)) ≡ s
 
 -- 9 numbers and 20 taps hold a description
 unfoldable pub shortControl : List ℤ → List ℤ → Bool

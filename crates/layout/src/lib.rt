@@ -1,5 +1,7 @@
-// How a state and a description lie in the slices that a program lends.
+// How a state and a frame lie in the slices that a program lends.
 // Inner: every function.
+pub mod frame;
+
 use decoder::SilkCNGState;
 use decoder::SilkDecoderControl;
 use decoder::SilkDecoderState;
@@ -12,7 +14,17 @@ ghost use Prim.Native.Nat.{_+_, _≤_};
 ghost use lib.IntN.{pos};
 ghost use lib.ListN.{length, replicate};
 ghost use Rattle.sigproc.specs.Place.{putAt};
-ghost use Rattle.layout.specs.Layout.{part, shortState, cngIn, plcIn, stateIn, numbers, stateWords, stateHalves, shortControl, controlIn, controlNumbers, rowsIn};
+ghost use Rattle.layout.specs.Layout.{StateStored, part, WORDS, HALVES, shortState, cngIn, plcIn, stateIn, numbers, stateWords, stateHalves, shortControl, controlIn, controlNumbers, rowsIn};
+ghost use Rattle.layout.specs.Frame.{FrameStored};
+
+pub const WORDS: usize = 696;
+
+pub const HALVES: usize = 535;
+
+// What is put is what is read: a claim, with no code.
+pub fn put_is_read()
+    ensures { λ _. ⌜ StateStored × FrameStored ⌝ }
+{}
 
 fn zeros320() -> [i32; 320]
     ensures { λ r. ⌜ r ≡ replicate 320 (pos 0) ⌝ }
@@ -112,7 +124,7 @@ fn part16_5(halves: &[i16], at: usize) -> [i16; 5]
 }
 
 fn cng_in(words: &[i32], halves: &[i16]) -> SilkCNGState
-    requires { ⌜ (696 ≤ length (now words)) × (535 ≤ length (now halves)) ⌝ }
+    requires { ⌜ (WORDS ≤ length (now words)) × (HALVES ≤ length (now halves)) ⌝ }
     ensures { λ r. ⌜ r ≡ cngIn (now (words .entry)) (now (halves .entry)) ⌝ }
 {
     let cng_exc_buf_q14 = part32_320(words, 357);
@@ -129,7 +141,7 @@ fn cng_in(words: &[i32], halves: &[i16]) -> SilkCNGState
 }
 
 fn plc_in(words: &[i32], halves: &[i16]) -> SilkPLCState
-    requires { ⌜ (696 ≤ length (now words)) × (535 ≤ length (now halves)) ⌝ }
+    requires { ⌜ (WORDS ≤ length (now words)) × (HALVES ≤ length (now halves)) ⌝ }
     ensures { λ r. ⌜ r ≡ plcIn (now (words .entry)) (now (halves .entry)) ⌝ }
 {
     let ltp_coef_q14 = part16_5(halves, 496);
@@ -154,7 +166,7 @@ fn plc_in(words: &[i32], halves: &[i16]) -> SilkPLCState
 
 // The state that words and halves hold.
 pub fn state_in(words: &[i32], halves: &[i16]) -> SilkDecoderState
-    requires { ⌜ (696 ≤ length (now words)) × (535 ≤ length (now halves)) ⌝ }
+    requires { ⌜ (WORDS ≤ length (now words)) × (HALVES ≤ length (now halves)) ⌝ }
     ensures { λ r. ⌜ r ≡ stateIn (now (words .entry)) (now (halves .entry)) ⌝ }
 {
     let exc_q14 = part32_320(words, 1);
@@ -241,7 +253,7 @@ fn numbers(s: SilkDecoderState) -> [i32; 20]
 }
 
 pub fn put_words(s: SilkDecoderState, words: &mut [i32])
-    requires { ⌜ 696 ≤ length (now words) ⌝ }
+    requires { ⌜ WORDS ≤ length (now words) ⌝ }
     ensures { λ _. ⌜ now (words .exit) ≡ putAt (now (words .entry)) 0 (stateWords s) ⌝ }
 {
     let gain = [s.prev_gain_q16];
@@ -258,7 +270,7 @@ pub fn put_words(s: SilkDecoderState, words: &mut [i32])
 }
 
 pub fn put_halves(s: SilkDecoderState, halves: &mut [i16])
-    requires { ⌜ 535 ≤ length (now halves) ⌝ }
+    requires { ⌜ HALVES ≤ length (now halves) ⌝ }
     ensures { λ _. ⌜ now (halves .exit) ≡ putAt (now (halves .entry)) 0 (stateHalves s) ⌝ }
 {
     let plc = s.s_plc;
