@@ -12,8 +12,6 @@ use mir.Syntax.{w8}
 use Rattle.word.specs.Int.{eqℤ, wrap}
 use Rattle.decoder.specs.Signals.{signalOf}
 use Rattle.decoder.specs.Typed.{TypedControl}
-use Rattle.decoder.specs.declared.Params.{Params}
-use Rattle.decoder.specs.declared.Frame.{Frame}
 use Rattle.decoder.specs.declared.Frame.the-variants.{Received, Lost}
 use Rattle.decoder.specs.declared.SilkDecoderControl.{SilkDecoderControl}
 use Rattle.layout.specs.Layout.{part, one}

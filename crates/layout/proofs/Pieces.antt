@@ -3,8 +3,8 @@ use Prim.Native.Nat.{ℕ, _+_, _-_, _≤_, _<_}
 use mathlib.Core.Path.{_≡_, sym, ap, _∙_}
 use mathlib.Core.List.{List, _++_, append-assoc}
 use native.Mathlib.Omega.{arith}
-use native.Mathlib.Nat.{zero-add, add-assoc, add-sub-cancel-left}
-use lib.ListN.{length, take, drop, length-append, length-take, length-drop, List·getD-append}
+use native.Mathlib.Nat.{zero-add, add-sub-cancel-left}
+use lib.ListN.{length, take, drop, length-append, length-drop, List·getD-append}
 use lib.Seq.{take-append-seam, drop-at, drop-append-add, drop-drop, getD-take, length-take-le}
 use lib.IntN.{ℤ, pos}
 use Rattle.sigproc.specs.Place.{putAt}

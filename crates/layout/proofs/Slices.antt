@@ -1,19 +1,25 @@
--- What slices of the types of words and halves hold has the ranges of its types.
+-- What slices of their types hold has the ranges of its types; what the tests of their lengths say.
 use Prim.Native.Nat.{ℕ, _+_, _≤_}
+use mathlib.Core.Path.{_≡_}
+use mathlib.Core.Bool.{false}
 use mathlib.Core.List.{List}
 use native.Mathlib.Omega.{arith}
+use borrow.Author.Tests.{ltb-false}
+use lib.Dec.{ltb}
 use lib.IntN.{ℤ}
 use lib.ListN.{length, drop}
 use mir.Syntax.{Width, w16, w32}
+use Rattle.word.proofs.Rows.{neither}
 use Rattle.decoder.specs.Typed.{Words, Typed, TypedControl, TypedRows}
 use Rattle.decoder.proofs.Types.{AllFit, take-fits, drop-fits}
-use Rattle.layout.specs.Layout.{part, cngIn, plcIn, stateIn, controlIn, rowsIn}
+use Rattle.layout.specs.Layout.{WORDS, HALVES, part, shortState, cngIn, plcIn, stateIn}
+use Rattle.layout.specs.Frame.{FRAME, COEFS, shortFrame, shortCall, controlIn, rowsIn}
 use Rattle.layout.proofs.Pieces.{length-part}
 
 pub part-words : {w : Width} (xs : List ℤ) (at n : ℕ) → AllFit w xs → at + n ≤ length xs → Words w n (part xs at n)
 part-words xs at n f h = record { count = length-part xs at n h; fits = take-fits n (drop at xs) (drop-fits at xs f) }
 
-pub state-typed : (words halves : List ℤ) → AllFit w32 words → AllFit w16 halves → 696 ≤ length words → 535 ≤ length halves → Typed (stateIn words halves)
+pub state-typed : (words halves : List ℤ) → AllFit w32 words → AllFit w16 halves → WORDS ≤ length words → HALVES ≤ length halves → Typed (stateIn words halves)
 unfolding stateIn plcIn cngIn
 state-typed words halves f g l k =
     record {
@@ -57,16 +63,38 @@ state-typed words halves f g l k =
       };
     }
 
-pub control-typed : (control taps : List ℤ) → AllFit w32 control → AllFit w16 taps → 9 ≤ length control → 20 ≤ length taps → TypedControl (controlIn control taps)
+pub control-typed : (frame coefs : List ℤ) → AllFit w32 frame → AllFit w16 coefs → FRAME ≤ length frame → 20 ≤ length coefs → TypedControl (controlIn frame coefs)
 unfolding controlIn
-control-typed control taps f g l k =
+control-typed frame coefs f g l k =
     record {
-      «pitch_l» = part-words control 0 4 f (omega arith);
-      «gains_q16» = part-words control 4 4 f (omega arith);
-      «ltp_coef_q14» = part-words taps 0 20 g (omega arith);
-      «ltp_scale_q14» = f 8;
+      «pitch_l» = part-words frame 7 4 f (omega arith);
+      «gains_q16» = part-words frame 11 4 f (omega arith);
+      «ltp_coef_q14» = part-words coefs 0 20 g (omega arith);
+      «ltp_scale_q14» = f 15;
     }
 
-pub rows-typed : (rows : List ℤ) → AllFit w16 rows → 32 ≤ length rows → TypedRows (rowsIn rows)
+pub rows-typed : (coefs : List ℤ) → AllFit w16 coefs → COEFS ≤ length coefs → TypedRows (rowsIn coefs)
 unfolding rowsIn
-rows-typed rows f l = record { first = part-words rows 0 16 f (omega arith); second = part-words rows 16 16 f (omega arith) }
+rows-typed coefs f l =
+    record { first = part-words coefs 20 16 f (omega arith); second = part-words coefs 36 16 f (omega arith) }
+
+-- ---- lengths that are not too short
+pub state-long : (words halves : ℕ) → shortState words halves ≡ false → (WORDS ≤ words) × (HALVES ≤ halves)
+unfolding shortState
+state-long words halves e =
+    let b = neither (ltb words WORDS) (ltb halves HALVES) e in
+    (ltb-false words WORDS (b .0), ltb-false halves HALVES (b .1))
+
+pub frame-long : (words halves frame : ℕ) → shortFrame words halves frame ≡ false → (WORDS ≤ words) × (HALVES ≤ halves) × (FRAME ≤ frame)
+unfolding shortFrame
+frame-long words halves frame e =
+    let b = neither (shortState words halves) (ltb frame FRAME) e in
+    let l = state-long words halves (b .0) in
+    (l .0, l .1, ltb-false frame FRAME (b .1))
+
+pub call-long : (words halves frame coefs : ℕ) → shortCall words halves frame coefs ≡ false → (WORDS ≤ words) × (HALVES ≤ halves) × (FRAME ≤ frame) × (COEFS ≤ coefs)
+unfolding shortCall
+call-long words halves frame coefs e =
+    let b = neither (shortFrame words halves frame) (ltb coefs COEFS) e in
+    let l = frame-long words halves frame (b .0) in
+    (l .0, l .1, l .2, ltb-false coefs COEFS (b .1))

@@ -10,7 +10,7 @@ use lib.IntN.{ℤ, pos}
 use Rattle.sigproc.specs.Place.{putAt}
 use Rattle.decoder.specs.Typed.{Typed}
 use Rattle.decoder.specs.declared.SilkDecoderState.{SilkDecoderState}
-use Rattle.layout.specs.Layout.{part, one, cngIn, plcIn, stateIn, numbers, stateWords, stateHalves}
+use Rattle.layout.specs.Layout.{WORDS, HALVES, part, one, cngIn, plcIn, stateIn, numbers, stateWords, stateHalves}
 
 -- ---- lists one after the other
 -- and what stands behind them
@@ -105,12 +105,12 @@ module _ (s : SilkDecoderState) (t : Typed s) where
   halves-laid rest = simp append-assoc
 
   -- 696 words and 535 halves
-  pub words-count : length (stateWords s) ≡ 696
+  pub words-count : length (stateWords s) ≡ WORDS
   unfolding stateWords numbers
   words-count =
       simp length-append (omega (arith, t .«exc_q14» .count, t .«s_lpc_q14_buf» .count, t .«s_cng» .«cng_exc_buf_q14» .count, t .«s_cng» .«cng_synth_state» .count))
 
-  pub halves-count : length (stateHalves s) ≡ 535
+  pub halves-count : length (stateHalves s) ≡ HALVES
   unfolding stateHalves
   halves-count =
       simp length-append (omega (arith, t .«out_buf» .count, t .«prev_nlsf_q15» .count, t .«s_plc» .«ltp_coef_q14» .count, t .«s_plc» .«prev_lpc_q12» .count, t .«s_cng» .«cng_smth_nlsf_q15» .count))

@@ -1,10 +1,11 @@
 -- A frame in numbers: `frame` has its kind, its shape, its small numbers, lags, gains and LTP scale, `coefs` its taps, coefficient rows and lines.
 use Prim.Native.Nat.{ℕ, _≤_}
 use mathlib.Core.Path.{_≡_}
-use mathlib.Core.Bool.{cond}
+use mathlib.Core.Bool.{Bool, cond, _||_}
 use mathlib.Core.List.{List, [], _∷_}
+use lib.Dec.{ltb}
 use lib.IntN.{ℤ, pos, negsuc}
-use lib.ListN.{length}
+use lib.ListN.{length, replicate}
 use mir.Syntax.{w8}
 use Rattle.word.specs.Int.{eqℤ, wrap}
 use Rattle.sigproc.specs.Place.{putAt}
@@ -15,7 +16,7 @@ use Rattle.decoder.specs.declared.Params.{Params}
 use Rattle.decoder.specs.declared.Frame.{Frame}
 use Rattle.decoder.specs.declared.Frame.the-variants.{Received, Lost}
 use Rattle.decoder.specs.declared.SilkDecoderControl.{SilkDecoderControl}
-use Rattle.layout.specs.Layout.{part, one}
+use Rattle.layout.specs.Layout.{part, one, shortState}
 
 -- 0 received, 1 rate, 2 subframes, 3 signal, 4 offset, 5 interpolation, 6 seed, 7 to 10 lags, 11 to 14 gains, 15 LTP scale
 abbrev pub FRAME : ℕ
@@ -24,6 +25,13 @@ FRAME = 16
 -- 0 to 19 taps, 20 to 51 two rows of coefficients, 52 to 67 lines
 abbrev pub COEFS : ℕ
 COEFS = 68
+
+-- slices of these lengths are too short for a state and a frame without coefficients, and with them
+unfoldable pub shortFrame : ℕ → ℕ → ℕ → Bool
+shortFrame words halves frame = shortState words halves || ltb frame FRAME
+
+unfoldable pub shortCall : ℕ → ℕ → ℕ → ℕ → Bool
+shortCall words halves frame coefs = shortFrame words halves frame || ltb coefs COEFS
 
 -- a number of 8 bits; one outside them counts as −1, which row 5 refuses
 unfoldable pub small : ℤ → ℤ
@@ -52,6 +60,10 @@ controlIn frame coefs =
       «ltp_coef_q14» = part coefs 0 20;
       «ltp_scale_q14» = one frame 15;
     }
+
+-- a description without taps, of which concealment and noise read none
+unfoldable pub tapless : List ℤ → SilkDecoderControl
+tapless frame = controlIn frame (replicate 20 (pos 0))
 
 unfoldable pub rowsIn : List ℤ → List (List ℤ)
 rowsIn coefs = part coefs 20 16 ∷ part coefs 36 16 ∷ []

@@ -1,17 +1,16 @@
--- How a state and a description lie in the slices that a program lends: each number in its own type, arrays whole.
+-- How a state lies in the slices that a program lends: each number in its own type, arrays whole.
 use Prim.Native.Nat.{ℕ}
 use mathlib.Core.Path.{_≡_}
 use mathlib.Core.Bool.{Bool, _||_}
 use mathlib.Core.List.{List, [], _∷_, _++_}
 use lib.Dec.{ltb}
 use lib.IntN.{ℤ, pos}
-use lib.ListN.{getD, length, take, drop}
+use lib.ListN.{getD, take, drop}
 use Rattle.sigproc.specs.Place.{putAt}
 use Rattle.decoder.specs.Typed.{Typed}
 use Rattle.decoder.specs.declared.SilkCNGState.{SilkCNGState}
 use Rattle.decoder.specs.declared.SilkPLCState.{SilkPLCState}
 use Rattle.decoder.specs.declared.SilkDecoderState.{SilkDecoderState}
-use Rattle.decoder.specs.declared.SilkDecoderControl.{SilkDecoderControl}
 
 -- n numbers from place `at` on
 abbrev pub part : List ℤ → ℕ → ℕ → List ℤ
@@ -27,8 +26,9 @@ WORDS = 696
 abbrev pub HALVES : ℕ
 HALVES = 535
 
-unfoldable pub shortState : List ℤ → List ℤ → Bool
-shortState words halves = ltb (length words) WORDS || ltb (length halves) HALVES
+-- slices of these lengths are too short for a state
+unfoldable pub shortState : ℕ → ℕ → Bool
+shortState words halves = ltb words WORDS || ltb halves HALVES
 
 unfoldable pub cngIn : List ℤ → List ℤ → SilkCNGState
 cngIn words halves =
@@ -116,29 +116,14 @@ stateHalves s =
     s .«out_buf» ++ s .«prev_nlsf_q15» ++ h .«ltp_coef_q14» ++ h .«prev_lpc_q12» ++ (h .«rand_scale_q14» ∷ h .«prev_ltp_scale_q14» ∷ [])
     ++ s .«s_cng» .«cng_smth_nlsf_q15»
 
+-- words and halves with a state in its places
+abbrev pub withWords : List ℤ → SilkDecoderState → List ℤ
+withWords words s = putAt words 0 (stateWords s)
+
+abbrev pub withHalves : List ℤ → SilkDecoderState → List ℤ
+withHalves halves s = putAt halves 0 (stateHalves s)
+
 -- a state that is put is the state that is read
 abbrev pub StateStored : Type 0
 StateStored =
-    (words halves : List ℤ) (s : SilkDecoderState) → Typed s → stateIn (putAt words 0 (stateWords s)) (putAt halves 0 (stateHalves s)) ≡ s
-
--- 9 numbers and 20 taps hold a description
-unfoldable pub shortControl : List ℤ → List ℤ → Bool
-shortControl control taps = ltb (length control) 9 || ltb (length taps) 20
-
--- the description that they hold
-unfoldable pub controlIn : List ℤ → List ℤ → SilkDecoderControl
-controlIn control taps =
-    record {
-      «pitch_l» = part control 0 4;
-      «gains_q16» = part control 4 4;
-      «ltp_coef_q14» = part taps 0 20;
-      «ltp_scale_q14» = one control 8;
-    }
-
--- a description's numbers; its taps follow by themselves
-unfoldable pub controlNumbers : SilkDecoderControl → List ℤ
-controlNumbers c = c .«pitch_l» ++ c .«gains_q16» ++ (c .«ltp_scale_q14» ∷ [])
-
--- the two coefficient rows in 32 numbers
-unfoldable pub rowsIn : List ℤ → List (List ℤ)
-rowsIn rows = part rows 0 16 ∷ part rows 16 16 ∷ []
+    (words halves : List ℤ) (s : SilkDecoderState) → Typed s → stateIn (withWords words s) (withHalves halves s) ≡ s

@@ -3,11 +3,15 @@
 use crate::part16_16;
 use crate::part16_20;
 use crate::part32_4;
+use crate::short_state;
 use decoder::Frame;
 use decoder::Params;
 use decoder::SilkDecoderControl;
+use decoder::either;
 use decoder::signal_of;
 use decoder::within;
+use refusal::Refusal;
+use refusal::number;
 use sigproc::copy16_at;
 use sigproc::copy32_at;
 use word::low16;
@@ -16,11 +20,26 @@ ghost use Prim.Native.Nat.{_≤_};
 ghost use lib.ListN.{length};
 ghost use mir.Syntax.{w8};
 ghost use Rattle.word.specs.Int.{wrap};
-ghost use Rattle.layout.specs.Frame.{FRAME, COEFS, small, paramsIn, frameIn, controlIn, rowsIn, linesIn, withLags, withTaps};
+ghost use Rattle.refusal.specs.Refusals.{ifAccepted};
+ghost use Rattle.layout.specs.Frame.{FRAME, COEFS, shortFrame, shortCall, small, paramsIn, frameIn, controlIn, tapless, rowsIn, linesIn, withLags, withTaps};
 
 pub const FRAME: usize = 16;
 
 pub const COEFS: usize = 68;
+
+// Too few words or halves for a state, or numbers for a frame.
+pub fn short_frame(words: usize, halves: usize, frame: usize) -> bool
+    ensures { λ r. ⌜ r ≡ shortFrame words halves frame ⌝ }
+{
+    either(short_state(words, halves), frame < FRAME)
+}
+
+// The same, or too few coefficients.
+pub fn short_call(words: usize, halves: usize, frame: usize, coefs: usize) -> bool
+    ensures { λ r. ⌜ r ≡ shortCall words halves frame coefs ⌝ }
+{
+    either(short_frame(words, halves, frame), coefs < COEFS)
+}
 
 // A number of 8 bits; one outside them counts as -1, which row 5 refuses.
 fn small(z: i32) -> i8
@@ -81,6 +100,15 @@ pub fn control_in(frame: &[i32], coefs: &[i16]) -> SilkDecoderControl
     }
 }
 
+// A description without taps, of which concealment and noise read none.
+pub fn tapless(frame: &[i32]) -> SilkDecoderControl
+    requires { ⌜ FRAME ≤ length (now frame) ⌝ }
+    ensures { λ r. ⌜ r ≡ tapless (now (frame .entry)) ⌝ }
+{
+    let taps = [0i16; 20];
+    control_in(frame, &taps)
+}
+
 // The two coefficient rows.
 pub fn rows_in(coefs: &[i16]) -> [[i16; 16]; 2]
     requires { ⌜ COEFS ≤ length (now coefs) ⌝ }
@@ -98,18 +126,26 @@ pub fn lines_in(coefs: &[i16]) -> [i16; 16]
     part16_16(coefs, 52)
 }
 
-pub fn put_lags(c: SilkDecoderControl, frame: &mut [i32])
+// The lags of a new description stored, if nothing is refused.
+pub fn keep_lags(refusal: Refusal, c: SilkDecoderControl, frame: &mut [i32])
     requires { ⌜ FRAME ≤ length (now frame) ⌝ }
-    ensures { λ _. ⌜ now (frame .exit) ≡ withLags (now (frame .entry)) c ⌝ }
+    ensures { λ _. ⌜ now (frame .exit) ≡ ifAccepted refusal (withLags (now (frame .entry)) c) (now (frame .entry)) ⌝ }
 {
+    if number(refusal) != 0 {
+        return;
+    }
     let lags = c.pitch_l;
     copy32_at(frame, 7, &lags);
 }
 
-pub fn put_taps(c: SilkDecoderControl, coefs: &mut [i16])
+// Its taps, likewise.
+pub fn keep_taps(refusal: Refusal, c: SilkDecoderControl, coefs: &mut [i16])
     requires { ⌜ COEFS ≤ length (now coefs) ⌝ }
-    ensures { λ _. ⌜ now (coefs .exit) ≡ withTaps (now (coefs .entry)) c ⌝ }
+    ensures { λ _. ⌜ now (coefs .exit) ≡ ifAccepted refusal (withTaps (now (coefs .entry)) c) (now (coefs .entry)) ⌝ }
 {
+    if number(refusal) != 0 {
+        return;
+    }
     let taps = c.ltp_coef_q14;
     copy16_at(coefs, 0, &taps);
 }

@@ -3,18 +3,19 @@
 pub mod frame;
 
 use decoder::SilkCNGState;
-use decoder::SilkDecoderControl;
 use decoder::SilkDecoderState;
 use decoder::SilkPLCState;
+use decoder::either;
+use refusal::Refusal;
+use refusal::number;
 use sigproc::copy16_at;
 use sigproc::copy32_at;
 ghost use mathlib.Core.Path.{_≡_};
-ghost use mathlib.Core.List.{_++_};
 ghost use Prim.Native.Nat.{_+_, _≤_};
 ghost use lib.IntN.{pos};
 ghost use lib.ListN.{length, replicate};
-ghost use Rattle.sigproc.specs.Place.{putAt};
-ghost use Rattle.layout.specs.Layout.{StateStored, part, WORDS, HALVES, shortState, cngIn, plcIn, stateIn, numbers, stateWords, stateHalves, shortControl, controlIn, controlNumbers, rowsIn};
+ghost use Rattle.refusal.specs.Refusals.{ifAccepted};
+ghost use Rattle.layout.specs.Layout.{part, WORDS, HALVES, shortState, cngIn, plcIn, stateIn, numbers, withWords, withHalves, StateStored};
 ghost use Rattle.layout.specs.Frame.{FrameStored};
 
 pub const WORDS: usize = 696;
@@ -25,6 +26,13 @@ pub const HALVES: usize = 535;
 pub fn put_is_read()
     ensures { λ _. ⌜ StateStored × FrameStored ⌝ }
 {}
+
+// Words or halves that are too few for a state.
+pub fn short_state(words: usize, halves: usize) -> bool
+    ensures { λ r. ⌜ r ≡ shortState words halves ⌝ }
+{
+    either(words < WORDS, halves < HALVES)
+}
 
 fn zeros320() -> [i32; 320]
     ensures { λ r. ⌜ r ≡ replicate 320 (pos 0) ⌝ }
@@ -105,7 +113,7 @@ fn part16_20(halves: &[i16], at: usize) -> [i16; 20]
     r
 }
 
-pub fn part16_16(halves: &[i16], at: usize) -> [i16; 16]
+fn part16_16(halves: &[i16], at: usize) -> [i16; 16]
     requires { ⌜ at + 16 ≤ length (now halves) ⌝ }
     ensures { λ r. ⌜ r ≡ part (now (halves .entry)) at 16 ⌝ }
 {
@@ -196,32 +204,6 @@ pub fn state_in(words: &[i32], halves: &[i16]) -> SilkDecoderState
     }
 }
 
-// The description that control and taps hold.
-pub fn control_in(control: &[i32], taps: &[i16]) -> SilkDecoderControl
-    requires { ⌜ (9 ≤ length (now control)) × (20 ≤ length (now taps)) ⌝ }
-    ensures { λ r. ⌜ r ≡ controlIn (now (control .entry)) (now (taps .entry)) ⌝ }
-{
-    let pitch_l = part32_4(control, 0);
-    let gains_q16 = part32_4(control, 4);
-    let ltp_coef_q14 = part16_20(taps, 0);
-    SilkDecoderControl {
-        pitch_l,
-        gains_q16,
-        ltp_coef_q14,
-        ltp_scale_q14: control[8],
-    }
-}
-
-// The two coefficient rows.
-pub fn rows_in(rows: &[i16]) -> [[i16; 16]; 2]
-    requires { ⌜ 32 ≤ length (now rows) ⌝ }
-    ensures { λ r. ⌜ r ≡ rowsIn (now (rows .entry)) ⌝ }
-{
-    let first = part16_16(rows, 0);
-    let second = part16_16(rows, 16);
-    [first, second]
-}
-
 // The numbers between the decoder's arrays and the noise's.
 fn numbers(s: SilkDecoderState) -> [i32; 20]
     ensures { λ r. ⌜ r ≡ numbers s ⌝ }
@@ -252,9 +234,9 @@ fn numbers(s: SilkDecoderState) -> [i32; 20]
     ]
 }
 
-pub fn put_words(s: SilkDecoderState, words: &mut [i32])
+fn put_words(s: SilkDecoderState, words: &mut [i32])
     requires { ⌜ WORDS ≤ length (now words) ⌝ }
-    ensures { λ _. ⌜ now (words .exit) ≡ putAt (now (words .entry)) 0 (stateWords s) ⌝ }
+    ensures { λ _. ⌜ now (words .exit) ≡ withWords (now (words .entry)) s ⌝ }
 {
     let gain = [s.prev_gain_q16];
     let numbers = numbers(s);
@@ -269,9 +251,9 @@ pub fn put_words(s: SilkDecoderState, words: &mut [i32])
     copy32_at(words, 693, &last);
 }
 
-pub fn put_halves(s: SilkDecoderState, halves: &mut [i16])
+fn put_halves(s: SilkDecoderState, halves: &mut [i16])
     requires { ⌜ HALVES ≤ length (now halves) ⌝ }
-    ensures { λ _. ⌜ now (halves .exit) ≡ putAt (now (halves .entry)) 0 (stateHalves s) ⌝ }
+    ensures { λ _. ⌜ now (halves .exit) ≡ withHalves (now (halves .entry)) s ⌝ }
 {
     let plc = s.s_plc;
     let scales = [plc.rand_scale_q14, plc.prev_ltp_scale_q14];
@@ -284,25 +266,15 @@ pub fn put_halves(s: SilkDecoderState, halves: &mut [i16])
     copy16_at(halves, 519, &cng.cng_smth_nlsf_q15);
 }
 
-fn put_three(control: &mut [i32], lags: &[i32; 4], gains: &[i32; 4], scale: &[i32; 1])
-    requires { ⌜ 9 ≤ length (now control) ⌝ }
-    ensures { λ _. ⌜ now (control .exit) ≡ putAt (now (control .entry)) 0 (now (lags .entry) ++ now (gains .entry) ++ now (scale .entry)) ⌝ }
+// A state stored, if nothing is refused.
+pub fn keep_state(refusal: Refusal, s: SilkDecoderState, words: &mut [i32], halves: &mut [i16])
+    requires { ⌜ (WORDS ≤ length (now words)) × (HALVES ≤ length (now halves)) ⌝ }
+    ensures { λ _. ⌜ (now (words .exit) ≡ ifAccepted refusal (withWords (now (words .entry)) s) (now (words .entry)))
+        × (now (halves .exit) ≡ ifAccepted refusal (withHalves (now (halves .entry)) s) (now (halves .entry))) ⌝ }
 {
-    copy32_at(control, 0, lags);
-    copy32_at(control, 4, gains);
-    copy32_at(control, 8, scale);
-}
-
-// A description's numbers and taps.
-pub fn put_control(c: SilkDecoderControl, control: &mut [i32], taps: &mut [i16])
-    requires { ⌜ (9 ≤ length (now control)) × (20 ≤ length (now taps)) ⌝ }
-    ensures { λ _. ⌜ (now (control .exit) ≡ putAt (now (control .entry)) 0 (controlNumbers c))
-        × (now (taps .exit) ≡ putAt (now (taps .entry)) 0 (c .«ltp_coef_q14»)) ⌝ }
-{
-    let lags = c.pitch_l;
-    let gains = c.gains_q16;
-    let scale = [c.ltp_scale_q14];
-    put_three(control, &lags, &gains, &scale);
-    let coef = c.ltp_coef_q14;
-    copy16_at(taps, 0, &coef);
+    if number(refusal) != 0 {
+        return;
+    }
+    put_words(s, words);
+    put_halves(s, halves);
 }

@@ -1,53 +1,130 @@
--- post_received and post_lost are sound calls.
-use Prim.Native.Nat.{_≤_}
-use mathlib.Core.Path.{_≡_, refl}
-use mathlib.Core.Bool.{false, _||_}
-use mathlib.Core.List.{List}
+-- A call of post_frame is a whole-frame call on the state that the slices hold, unless a slice is short.
+use Prim.Native.Nat.{ℕ, _≤_}
+use mathlib.Core.Path.{_≡_, refl, sym, ap, _∙_, subst}
+use mathlib.Core.Bool.{Bool, true, false, cond, false≢true}
 use native.Mathlib.Omega.{arith}
-use borrow.Author.Tests.{ltb-false}
-use lib.Dec.{ltb}
-use lib.IntN.{ℤ}
+use lib.Dec.{eqb}
+use lib.IntN.{pos, negsuc, natAbs, pos-ne-negsuc}
 use lib.ListN.{length}
-use mir.Syntax.{w16, w32}
-use Rattle.word.proofs.Rows.{neither}
-use Rattle.decoder.specs.Typed.{TypedControl}
+use Rattle.word.specs.Int.{eqℤ}
+use Rattle.word.proofs.Order.{eqℤ-true}
+use Rattle.sigproc.proofs.Places.{length-putAt}
+use Rattle.refusal.specs.Refusals.{refusalNumber}
+use Rattle.refusal.specs.declared.Refusal.{Refusal}
+use Rattle.decoder.specs.declared.SilkDecoderState.{SilkDecoderState}
+use Rattle.decoder.specs.declared.Frame.{Frame}
+use Rattle.decoder.specs.declared.Frame.the-variants.{Received, Lost}
 use Rattle.decode_frame.specs.Answer.{frameAnswer}
-use Rattle.lists.specs.Lists.{refusalOf, stateAfter}
-use Rattle.layout.specs.Layout.{controlIn, shortState, shortControl}
-use Rattle.layout.proofs.Slices.{part-words, control-typed, rows-typed}
-use Rattle.post.specs.Stages.{shortCall, shortFrame, shortLines}
-use Rattle.linked.specs.Linked.{Held, Linked, received, lost, callOf, broughtBy}
-use Rattle.linked.specs.Claims.{Slice, TypedLinked}
-use Rattle.linked.proofs.Sound.{Sound}
+use Rattle.decode_frame.proofs.Kept.{Good}
+use Rattle.lists.specs.Lists.{refusalOf, stateAfter, counted, countAfter}
+use Rattle.lists.specs.Claims.{NotForState, TypedBeside, TypedCall}
+use Rattle.lists.proofs.Keeps.{keeps}
+use Rattle.layout.specs.Layout.{WORDS, HALVES, stateWords, stateHalves, withWords, withHalves}
+use Rattle.layout.specs.Frame.{COEFS}
+use Rattle.layout.proofs.Stored.{stored, words-count, halves-count}
+use Rattle.layout.proofs.Slices.{part-words, control-typed, rows-typed, call-long}
+use Rattle.post.specs.Calls.{Slices, called}
+use Rattle.post.specs.Stages.{callShort, playedCall, frameCall}
+use Rattle.linked.specs.Linked.{Held, stateOf, Linked, lentTo, callOf, broughtBy, heldIn, leftBy, lossesAfter}
+use Rattle.linked.specs.Claims.{TypedLinked}
 
-module _ (words halves control taps : List ℤ) (f : Slice w32 control) (g : Slice w16 taps) where
-  control-lent : shortCall words halves control taps ≡ false → TypedControl (controlIn control taps)
-  unfolding shortCall shortControl
-  control-lent e =
-      let a = neither (shortState words halves) (ltb (length control) 9 || ltb (length taps) 20) e .1 in
-      let b = neither (ltb (length control) 9) (ltb (length taps) 20) a in
-      control-typed control taps f g (ltb-false _ 9 (b .0)) (ltb-false _ 20 (b .1))
+-- ---- an exported call
+module _ (short : Bool) (r : Refusal) (new lent : Slices) where
+  -- one that answers 0 leaves the new slices
+  pub played : called short r new lent .answer ≡ pos 0 → (short ≡ false) × (refusalNumber r ≡ 0) × (called short r new lent .after ≡ new)
+  unfolding called
+  played = go short refl
+    where
+      go : (b : Bool) → short ≡ b → cond b (negsuc 0) (pos (refusalNumber r)) ≡ pos 0 → (short ≡ false) × (refusalNumber r ≡ 0) × (cond b lent (cond (eqb (refusalNumber r) 0) new lent) ≡ new)
+      go true e z = absurd (pos-ne-negsuc 0 0 (sym z))
+      go false e z = let n = ap natAbs z in (e, n, rw n refl)
 
-lines-lent : (words halves control taps rows lines : List ℤ) → shortLines words halves control taps rows lines ≡ false
-    → (shortCall words halves control taps ≡ false) × (32 ≤ length rows) × (16 ≤ length lines)
-unfolding shortLines shortFrame
-lines-lent words halves control taps rows lines e =
-    let a = neither (shortCall words halves control taps || ltb (length rows) 32) (ltb (length lines) 16) e in
-    let b = neither (shortCall words halves control taps) (ltb (length rows) 32) (a .0) in
-    (b .0, ltb-false _ 32 (b .1), ltb-false _ 16 (a .1))
+  -- any other leaves those lent
+  pub unplayed : eqℤ (called short r new lent .answer) (pos 0) ≡ false → called short r new lent .after ≡ lent
+  unfolding called
+  unplayed = go short (eqb (refusalNumber r) 0) refl
+    where
+      go : (b d : Bool) → eqb (refusalNumber r) 0 ≡ d → eqℤ (cond b (negsuc 0) (pos (refusalNumber r))) (pos 0) ≡ false → cond b lent (cond d new lent) ≡ lent
+      go true d e z = refl
+      go false true e z = absurd (false≢true (sym z ∙ e))
+      go false false e z = refl
 
-pub sound : (m : Held) (x : Linked) → TypedLinked x → Sound m (callOf m x) (broughtBy x)
-unfolding refusalOf stateAfter frameAnswer
-sound m (received signal offset interpolation seed control taps rows lines pulses output) t =
-    record {
-      typed = λ e.
-          let l = lines-lent (m .words) (m .halves) control taps rows lines e in
-          record {
-            control = control-lent (m .words) (m .halves) control taps (t .0) (t .1) (l .0);
-            beside = record { rows = rows-typed rows (t .2) (l .1); lines = part-words lines 0 16 (t .3) (omega arith); pulses = t .4 };
-          };
-      refusal = refl;
-      state = refl;
-    }
-sound m (lost control taps output) t =
-    record { typed = λ e. record { control = control-lent (m .words) (m .halves) control taps (t .0) (t .1) e; beside = tt }; refusal = refl; state = refl }
+  pub not-for-state : NotForState (pos (refusalNumber r)) → NotForState (called short r new lent .answer)
+  unfolding called
+  not-for-state h = go short
+    where
+      go : (b : Bool) → NotForState (cond b (negsuc 0) (pos (refusalNumber r)))
+      go true = (λ e. pos-ne-negsuc 1 0 (sym e), λ e. pos-ne-negsuc 2 0 (sym e), λ e. pos-ne-negsuc 3 0 (sym e))
+      go false = h
+
+-- ---- slices that hold a good state
+abbrev pub Long : Held → Type 0
+Long m = (WORDS ≤ length (m .words)) × (HALVES ≤ length (m .halves))
+
+pub record GoodHeld (m : Held) : Type 0 where
+  pub long : Long m
+  pub good : Good (stateOf m)
+
+-- slices with a new state
+abbrev pub storedIn : Held → SilkDecoderState → Held
+storedIn m s = record { words = withWords (m .words) s; halves = withHalves (m .halves) s }
+
+-- they hold it
+pub stored-good : (m k : Held) (s : SilkDecoderState) → k ≡ storedIn m s → Long m → Good s → GoodHeld k × (stateOf k ≡ s)
+stored-good m k s e l g =
+    let w = words-count s (g .typed) in
+    let h = halves-count s (g .typed) in
+    let is : stateOf k ≡ s = ap stateOf e ∙ stored s (g .typed) (m .words) (m .halves) in
+    let lw : WORDS ≤ length (withWords (m .words) s) = rw (length-putAt (m .words) 0 (stateWords s) (omega (arith, l .0))) (l .0) in
+    let lh : HALVES ≤ length (withHalves (m .halves) s) = rw (length-putAt (m .halves) 0 (stateHalves s) (omega (arith, l .1))) (l .1) in
+    (record { long = subst Long (sym e) (lw, lh); good = subst Good (sym is) g }, is)
+
+-- ---- a call of post_frame
+module _ (m : Held) (x : Linked) where
+  -- what it brings has the ranges of its types, where no slice is too short
+  pub brought-typed : TypedLinked x → callShort (lentTo m x) ≡ false → TypedCall (broughtBy x)
+  brought-typed t e =
+      let l = call-long (length (m .words)) (length (m .halves)) (length (x .frame)) (length (x .coefs)) e in
+      record { control = control-typed (x .frame) (x .coefs) (t .0) (t .1) (l .2) (omega (arith, l .3)); beside = beside (l .3) (broughtBy x .frame) }
+    where
+      beside : COEFS ≤ length (x .coefs) → (f : Frame) → TypedBeside f (broughtBy x)
+      beside k (Received q) = record { rows = rows-typed (x .coefs) (t .1) k; lines = part-words (x .coefs) 52 16 (t .1) (omega arith); pulses = t .2 }
+      beside k Lost = tt
+
+  -- one that answers 0
+  pub frame-played : callOf m x .answer ≡ pos 0 → (callShort (lentTo m x) ≡ false) × (refusalNumber (refusalOf (stateOf m) (broughtBy x)) ≡ 0) × (leftBy (callOf m x) ≡ storedIn m (stateAfter (stateOf m) (broughtBy x)))
+  unfolding frameCall playedCall refusalOf stateAfter frameAnswer
+  frame-played z = let p = played _ _ _ _ z in (p .0, p .1, ap heldIn (p .2))
+
+  frame-unplayed : eqℤ (callOf m x .answer) (pos 0) ≡ false → leftBy (callOf m x) ≡ m
+  unfolding frameCall playedCall
+  frame-unplayed z = ap heldIn (unplayed _ _ _ _ z)
+
+  pub frame-not-for-state : NotForState (pos (refusalNumber (refusalOf (stateOf m) (broughtBy x)))) → NotForState (callOf m x .answer)
+  unfolding frameCall playedCall refusalOf frameAnswer
+  frame-not-for-state h = not-for-state _ _ _ _ h
+
+  module _ (t : TypedLinked x) (g : GoodHeld m) where
+    -- one that answers 0 leaves what the whole-frame call leaves
+    pub frame-left : callOf m x .answer ≡ pos 0 → GoodHeld (leftBy (callOf m x)) × (stateOf (leftBy (callOf m x)) ≡ stateAfter (stateOf m) (broughtBy x))
+    frame-left z =
+        let p = frame-played z in
+        stored-good m (leftBy (callOf m x)) (stateAfter (stateOf m) (broughtBy x)) (p .2) (g .long) (keeps (stateOf m) (broughtBy x) (g .good) (brought-typed t (p .0)))
+
+    -- an invariant of the state and of the losses that count goes on if the whole-frame call keeps it
+    pub goes-on : (R : SilkDecoderState → ℕ → Type 0) (n : ℕ) → R (stateOf m) n
+        → (TypedCall (broughtBy x) → R (stateAfter (stateOf m) (broughtBy x)) (countAfter (stateOf m) (broughtBy x) n))
+        → GoodHeld (leftBy (callOf m x)) × R (stateOf (leftBy (callOf m x))) (lossesAfter (callOf m x) (broughtBy x .frame) n)
+    unfolding lossesAfter countAfter
+    goes-on R n r f = go (eqℤ (callOf m x .answer) (pos 0)) refl
+      where
+        go : (b : Bool) → eqℤ (callOf m x .answer) (pos 0) ≡ b → GoodHeld (leftBy (callOf m x)) × R (stateOf (leftBy (callOf m x))) (cond b (counted (broughtBy x .frame) n) n)
+        go true e =
+            let z = eqℤ-true (callOf m x .answer) (pos 0) e in
+            let p = frame-played z in
+            let l = frame-left z in
+            let r = subst (λ (j : ℕ). R (stateAfter (stateOf m) (broughtBy x)) (cond (eqb j 0) (counted (broughtBy x .frame) n) n)) (p .1) (f (brought-typed t (p .0))) in
+            (l .0, subst (λ (s : SilkDecoderState). R s (counted (broughtBy x .frame) n)) (sym (l .1)) r)
+        go false e =
+            let s = frame-unplayed e in
+            (subst GoodHeld (sym s) g, subst (λ (h : Held). R (stateOf h) n) (sym s) r)

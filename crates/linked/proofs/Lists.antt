@@ -1,89 +1,78 @@
 -- What holds at every call of a list.
 use Prim.Native.Nat.{ℕ, _-_, _≤_}
 use mathlib.Core.Path.{_≡_, sym, ap, _∙_, subst}
-use mathlib.Core.Bool.{Bool, true, false, cond}
 use mathlib.Core.Logic.{_⊎_, inl, inr}
 use mathlib.Core.List.{List}
 use native.Mathlib.Omega.{arith}
-use lib.IntN.{ℤ, pos, negsuc, natAbs, pos-ne-negsuc}
-use lib.ListN.{drop}
+use lib.IntN.{ℤ, pos, natAbs}
+use lib.ListN.{length, drop}
 use lib.Seq.{getD-take, getD-drop}
 use Rattle.word.specs.Size.{Bounded}
-use Rattle.refusal.specs.Refusals.{refusalNumber}
 use Rattle.sigproc.proofs.Places.{part-take}
+use Rattle.refusal.specs.Refusals.{refusalNumber}
 use Rattle.shape.specs.Shape.{Shape, frameLength, memLength}
 use Rattle.decoder.specs.State.{shapeOf}
 use Rattle.decoder.specs.SetUp.{setUp}
 use Rattle.decoder.specs.declared.SilkDecoderState.{SilkDecoderState}
 use Rattle.decoder.specs.declared.Frame.the-variants.{Lost}
 use Rattle.plc.specs.Conceal.{laterGain, plcConceal}
-use Rattle.decode_frame.specs.Call.{Call as FrameCall}
 use Rattle.decode_frame.proofs.Kept.{Good}
 use Rattle.quiet.specs.Bound.{quietBound}
 use Rattle.quiet.proofs.Start.{fits}
+use Rattle.decode_frame.specs.Call.{Call}
 use Rattle.lists.specs.Lists.{refusalOf, stateAfter, countAfter}
-use Rattle.lists.specs.Claims.{Every, none, then, NotForState, TypedCall}
+use Rattle.lists.specs.Claims.{Every, none, then, TypedCall}
 use Rattle.lists.proofs.Keeps.{newState, keeps, every-map}
 use Rattle.lists.proofs.History.{not-refused, set-up-shaped}
 use Rattle.lists.proofs.Lost.{lost-shape, last-frame}
 use Rattle.lists.proofs.Losses.{Counts, counts-after, set-up-counts}
 use Rattle.lists.proofs.Loud.{Quietens, fresh, quietens-after, lost-state, place-quiet}
 use Rattle.layout.specs.Layout.{part, one, stateIn, plcIn}
-use Rattle.layout.proofs.Slices.{state-typed}
-use Rattle.post.specs.Calls.{Call, numberOf}
+use Rattle.layout.proofs.Slices.{state-typed, state-long}
 use Rattle.post.specs.Stages.{setUpCall}
-use Rattle.linked.specs.Linked.{Held, stateOf, Linked, callOf, broughtBy, At, linkedFrom}
-use Rattle.linked.specs.Claims.{TypedLinked, FromSetUp, FromAccepted, callAt, slicesAfter, LostPlayed, concealedIn, gainIn, lastFrame, gainHeld, LinkedHistory, LinkedLosses, LinkedQuiet}
-use Rattle.linked.proofs.Sound.{long-state, GoodHeld, Sound, answered, left-state, left-sound, goes-on}
-use Rattle.linked.proofs.Calls.{sound}
+use Rattle.linked.specs.Linked.{Held, stateOf, Linked, broughtBy, heldIn, At, linkedFrom}
+use Rattle.linked.specs.Claims.{TypedLinked, FromSetUp, FromAccepted, slicesAfter, LostPlayed, concealedIn, gainIn, lastFrame, gainHeld, LinkedHistory, LinkedLosses, LinkedQuiet}
+use Rattle.linked.proofs.Calls.{played, GoodHeld, stored-good, frame-played, frame-not-for-state, frame-left, goes-on}
 
 -- ---- along a list
 -- an invariant of the state and of the losses that count, where a call stands
 record Stands (R : SilkDecoderState → ℕ → Type 0) (t : At) : Type 0 where
   held : GoodHeld (t .held)
-  call : Sound (t .held) (callAt t) (broughtBy (t .call))
+  typed : TypedLinked (t .call)
   holds : R (stateOf (t .held)) (t .losses)
 
-module _ (R : SilkDecoderState → ℕ → Type 0) (step : (s : SilkDecoderState) (n : ℕ) (x : FrameCall) → R s n → TypedCall x → R (stateAfter s x) (countAfter s x n)) where
+module _ (R : SilkDecoderState → ℕ → Type 0) (step : (s : SilkDecoderState) (n : ℕ) (x : Call) → R s n → TypedCall x → R (stateAfter s x) (countAfter s x n)) where
   along : (m : Held) (n : ℕ) {xs : List Linked} → GoodHeld m → R (stateOf m) n → Every TypedLinked xs → Every (Stands R) (linkedFrom m n xs)
   unfolding linkedFrom
   along m n g r none = none
   along m n g r (then {x} t ts) =
-      let so = sound m x t in
-      let l = goes-on m (callOf m x) (broughtBy x) so g R n r (step (stateOf m) n (broughtBy x) r) in
-      then (record { held = g; call = so; holds = r }) (along _ _ (l .0) (l .1) ts)
+      let l = goes-on m x t g R n r (step (stateOf m) n (broughtBy x) r) in
+      then (record { held = g; typed = t; holds = r }) (along _ _ (l .0) (l .1) ts)
 
 -- ---- where a list starts
 set-up-held : (m : Held) → FromSetUp m → GoodHeld m × Counts (stateOf m) 0
-unfolding setUp
+unfolding setUpCall setUp
 set-up-held m f =
-    let k = setUpCall (f .rate) (f .subframes) (f .lent .words) (f .lent .halves) in
-    let a = answered k (f .answered) in
-    let h = set-up-shaped (f .rate) (f .subframes) (a .1) in
+    let p = played _ _ _ _ (f .answered) in
+    let h = set-up-shaped (f .rate) (f .subframes) (p .1) in
     let c = set-up-counts (f .rate) (f .subframes) (h .0) (h .1) in
-    let l = left-state k (f .lent) (long-state (f .lent) (a .0)) (c .good) (f .answered) in
-    (subst GoodHeld (sym (f .left)) (l .0), subst (λ (s : SilkDecoderState). Counts s 0) (sym (ap stateOf (f .left) ∙ l .1)) c)
+    let e = f .left ∙ ap heldIn (p .2) in
+    let l = stored-good (f .lent) m (setUp (f .rate) (f .subframes) .state) e (state-long (length (f .lent .words)) (length (f .lent .halves)) (p .0)) (c .good) in
+    (l .0, subst (λ (s : SilkDecoderState). Counts s 0) (sym (l .1)) c)
 
 accepted-held : (m : Held) → FromAccepted m → GoodHeld m
 accepted-held m f =
-    let l = long-state m (f .long) in
+    let l = state-long (length (m .words)) (length (m .halves)) (f .long) in
     record { long = l; good = record { accepted = f .accepted; typed = state-typed (m .words) (m .halves) (f .words) (f .halves) (l .0) (l .1) } }
 
 start-held : (m : Held) → FromSetUp m ⊎ FromAccepted m → GoodHeld m
 start-held m f = elim f as (λ t. GoodHeld m) [ inl a ↦ set-up-held m a .0 | inr b ↦ accepted-held m b ]
 
 -- ---- the answers
-not-for-state : (k : Call) → NotForState (pos (refusalNumber (k .refusal))) → NotForState (numberOf k)
-not-for-state k h = go (k .short)
-  where
-    go : (b : Bool) → NotForState (cond b (negsuc 0) (pos (refusalNumber (k .refusal))))
-    go true = (λ e. pos-ne-negsuc 1 0 (sym e), λ e. pos-ne-negsuc 2 0 (sym e), λ e. pos-ne-negsuc 3 0 (sym e))
-    go false = h
-
 pub linked-history : LinkedHistory
 linked-history m xs f ts =
     let h = set-up-held m f in
-    every-map (λ t s. not-for-state (callAt t) (rw (s .call .refusal) (not-refused (stateOf (t .held)) (broughtBy (t .call)) (s .holds))))
+    every-map (λ t s. frame-not-for-state (t .held) (t .call) (not-refused (stateOf (t .held)) (broughtBy (t .call)) (s .holds)))
     (along (λ s n. Good s) (λ s n x g t. keeps s x g t) m 0 (h .0) (h .1 .good) ts)
 
 pub linked-losses : LinkedLosses
@@ -97,21 +86,18 @@ module _ (t : At) (so : Stands Quietens t) (z : LostPlayed t) where
   abbrev s : SilkDecoderState
   s = stateOf (t .held)
 
-  abbrev x : FrameCall
+  abbrev x : Call
   x = broughtBy (t .call)
-
-  abbrev k : Call
-  k = callAt t
 
   -- what it leaves
   left : GoodHeld (slicesAfter t) × (stateOf (slicesAfter t) ≡ stateAfter s x)
-  left = left-sound (t .held) k x (so .call) (so .held) (z .1)
+  left = frame-left (t .held) (t .call) (so .typed) (so .held) (z .1)
 
-  played : refusalNumber (refusalOf s x) ≡ 0
-  played = ap refusalNumber (sym (so .call .refusal)) ∙ answered k (z .1) .1
+  accepted : refusalNumber (refusalOf s x) ≡ 0
+  accepted = frame-played (t .held) (t .call) (z .1) .1
 
   is-new : stateOf (slicesAfter t) ≡ newState s Lost x
-  is-new = left .1 ∙ lost-state s x (z .0) played
+  is-new = left .1 ∙ lost-state s x (z .0) accepted
 
   -- the last frame of the history that a state holds
   abbrev lastOf : SilkDecoderState → List ℤ
@@ -139,12 +125,10 @@ module _ (t : At) (so : Stands Quietens t) (z : LostPlayed t) where
   gain-seen =
       let w = slicesAfter t .words in
       let e : laterGain (stateOf (slicesAfter t) .«s_plc») ≡ one w 353 = getD-take 2 (drop 352 w) 1 (pos 0) (omega arith) ∙ getD-drop 352 w 1 (pos 0) in
-      ap natAbs (sym e ∙ ap (λ (u : SilkDecoderState). laterGain (u .«s_plc»)) (left .1 ∙ sym (so .call .state)))
+      ap natAbs (sym e ∙ ap (λ (u : SilkDecoderState). laterGain (u .«s_plc»)) (left .1))
 
   quiet : 1024 ≤ t .losses → Bounded (quietBound (gainIn t)) (concealedIn t)
-  quiet h =
-      subst (λ (u : SilkDecoderState). Bounded (quietBound (natAbs (laterGain (u .«s_plc»)))) (concealedIn t)) (sym (so .call .state))
-      (place-quiet s (t .losses) x (so .holds) (z .0) played h)
+  quiet h = place-quiet s (t .losses) x (so .holds) (z .0) accepted h
 
   quiet-slices : 1024 ≤ t .losses → Bounded (quietBound (gainHeld (slicesAfter t))) (lastFrame (slicesAfter t))
   quiet-slices h = rw (gain-seen, samples-seen) (quiet h)

@@ -3,9 +3,9 @@ use Prim.Native.Nat.{ℕ, _-_, _≤_}
 use mathlib.Core.Path.{_≡_}
 use mathlib.Core.Bool.{false}
 use mathlib.Core.Logic.{_⊎_}
-use mathlib.Core.List.{List}
+use mathlib.Core.List.{List, []}
 use lib.IntN.{ℤ, pos, natAbs}
-use lib.ListN.{getD}
+use lib.ListN.{getD, length}
 use mir.Syntax.{Width, w16, w32}
 use mir.Val.{SFits}
 use Rattle.word.specs.Size.{Bounded}
@@ -15,11 +15,12 @@ use Rattle.decoder.specs.State.{shapeOf}
 use Rattle.decoder.specs.declared.Frame.the-variants.{Lost}
 use Rattle.plc.specs.Conceal.{laterGain, plcConceal}
 use Rattle.quiet.specs.Bound.{quietBound}
+use Rattle.lists.specs.Lists.{stateAfter}
 use Rattle.lists.specs.Claims.{Every, NotForState}
 use Rattle.layout.specs.Layout.{part, one, shortState}
-use Rattle.post.specs.Calls.{Call, numberOf}
+use Rattle.post.specs.Calls.{slices, Called}
 use Rattle.post.specs.Stages.{setUpCall}
-use Rattle.linked.specs.Linked.{Held, stateOf, Linked, received, lost, callOf, broughtBy, leftBy, At, linkedFrom}
+use Rattle.linked.specs.Linked.{Held, stateOf, Linked, callOf, broughtBy, leftBy, At, linkedFrom}
 
 -- ---- which lists
 -- every number of a slice is one of its type
@@ -28,37 +29,39 @@ Slice w xs = (i : ℕ) → SFits w (getD xs i (pos 0))
 
 -- what a program lends: slices of any length with any numbers of their types
 abbrev pub TypedLinked : Linked → Type 0
-TypedLinked (received signal offset interpolation seed control taps rows lines pulses output) =
-    Slice w32 control × Slice w16 taps × Slice w16 rows × Slice w16 lines × Slice w16 pulses
-TypedLinked (lost control taps output) = Slice w32 control × Slice w16 taps
+TypedLinked x = Slice w32 (x .frame) × Slice w16 (x .coefs) × Slice w16 (x .pulses)
+
+-- the call of post_set_up, which takes words and halves alone
+abbrev pub setUpOn : ℤ → ℤ → Held → Called
+setUpOn rate subframes m = setUpCall rate subframes (slices (m .words) (m .halves) [] [] [] [])
 
 -- slices as post_set_up leaves them where it answers 0
 pub record FromSetUp (m : Held) : Type 0 where
   pub rate : ℤ
   pub subframes : ℤ
   pub lent : Held
-  pub answered : numberOf (setUpCall rate subframes (lent .words) (lent .halves)) ≡ pos 0
-  pub left : m ≡ leftBy (setUpCall rate subframes (lent .words) (lent .halves)) lent
+  pub answered : setUpOn rate subframes lent .answer ≡ pos 0
+  pub left : m ≡ leftBy (setUpOn rate subframes lent)
 
 -- slices that hold an accepted state
 pub record FromAccepted (m : Held) : Type 0 where
   pub words : Slice w32 (m .words)
   pub halves : Slice w16 (m .halves)
-  pub long : shortState (m .words) (m .halves) ≡ false
+  pub long : shortState (length (m .words)) (length (m .halves)) ≡ false
   pub accepted : Accepted (rateOf (stateOf m .«fs_khz»)) (stateOf m)
 
 -- ---- every call
 module _ (t : At) where
-  abbrev pub callAt : Call
+  abbrev pub callAt : Called
   callAt = callOf (t .held) (t .call)
 
   -- the slices after the call
   abbrev pub slicesAfter : Held
-  slicesAfter = leftBy callAt (t .held)
+  slicesAfter = leftBy callAt
 
   -- it is a lost frame, and answers 0
   abbrev pub LostPlayed : Type 0
-  LostPlayed = (broughtBy (t .call) .frame ≡ Lost) × (numberOf callAt ≡ pos 0)
+  LostPlayed = (broughtBy (t .call) .frame ≡ Lost) × (callAt .answer ≡ pos 0)
 
   -- the concealed samples of a lost frame, by demand 2's definition and before noise
   abbrev pub concealedIn : List ℤ
@@ -66,7 +69,7 @@ module _ (t : At) where
 
   -- G: the later of concealment's two gains in the new state
   abbrev pub gainIn : ℕ
-  gainIn = natAbs (laterGain (callAt .state .«s_plc»))
+  gainIn = natAbs (laterGain (stateAfter (stateOf (t .held)) (broughtBy (t .call)) .«s_plc»))
 
 -- the last frame of the history: the 5rn numbers of halves before place 20r, r and n being the numbers of words at 338 and 339
 unfoldable pub lastFrame : Held → List ℤ
@@ -95,7 +98,7 @@ SlicesQuiet t = LostPlayed t → 1024 ≤ t .losses → Bounded (quietBound (gai
 abbrev pub LinkedHistory : Type 0
 LinkedHistory =
     (m : Held) (xs : List Linked) → FromSetUp m → Every TypedLinked xs
-    → Every (λ t. NotForState (numberOf (callAt t))) (linkedFrom m 0 xs)
+    → Every (λ t. NotForState (callAt t .answer)) (linkedFrom m 0 xs)
 
 -- and the losses that count are the number of words at 345
 abbrev pub LinkedLosses : Type 0

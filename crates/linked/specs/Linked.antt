@@ -1,4 +1,4 @@
--- Lists of exported calls, and the slices that a program holds between them.
+-- Lists of post_frame calls, and the slices that a program holds between them.
 use Prim.Native.Nat.{ℕ}
 use mathlib.Core.Bool.{cond}
 use mathlib.Core.List.{List, [], _∷_}
@@ -6,12 +6,12 @@ use lib.IntN.{ℤ, pos}
 use Rattle.word.specs.Int.{eqℤ}
 use Rattle.decoder.specs.declared.SilkDecoderState.{SilkDecoderState}
 use Rattle.decoder.specs.declared.Frame.{Frame}
-use Rattle.decoder.specs.declared.Frame.the-variants.{Received, Lost}
-use Rattle.decode_frame.specs.Call.{Call as FrameCall}
+use Rattle.decode_frame.specs.Call.{Call}
 use Rattle.lists.specs.Lists.{counted}
-use Rattle.layout.specs.Layout.{part, stateIn, controlIn, rowsIn}
-use Rattle.post.specs.Calls.{Call, numberOf, newWords, newHalves}
-use Rattle.post.specs.Stages.{paramsOf, frameLostCall, frameReceivedCall}
+use Rattle.layout.specs.Layout.{stateIn}
+use Rattle.layout.specs.Frame.{frameIn, controlIn, rowsIn, linesIn}
+use Rattle.post.specs.Calls.{Slices, slices, Called}
+use Rattle.post.specs.Stages.{frameCall}
 
 -- the slices that hold a state
 pub record Held : Type 0 where
@@ -21,38 +21,44 @@ pub record Held : Type 0 where
 abbrev pub stateOf : Held → SilkDecoderState
 stateOf m = stateIn (m .words) (m .halves)
 
--- a call of post_received or of post_lost, with all that the program lends beside the state
-pub data Linked : Type 0 where
-  received : (signal offset interpolation seed : ℤ) (control taps rows lines pulses output : List ℤ) → Linked
-  lost : (control taps output : List ℤ) → Linked
+-- what the program lends to a call beside the state
+pub record Linked : Type 0 where
+  pub frame : List ℤ
+  pub coefs : List ℤ
+  pub pulses : List ℤ
+  pub output : List ℤ
 
--- the call, as the contract of the exported function has it
-abbrev pub callOf : Held → Linked → Call
-callOf m (received signal offset interpolation seed control taps rows lines pulses output) =
-    frameReceivedCall (m .words) (m .halves) control taps rows lines (paramsOf signal offset interpolation seed) pulses output
-callOf m (lost control taps output) = frameLostCall (m .words) (m .halves) control taps output
+-- all slices of the call
+abbrev pub lentTo : Held → Linked → Slices
+lentTo m x = slices (m .words) (m .halves) (x .frame) (x .coefs) (x .pulses) (x .output)
+
+-- the call, as the contract of post_frame has it
+abbrev pub callOf : Held → Linked → Called
+callOf m x = frameCall (lentTo m x)
 
 -- what it brings of a whole-frame call
-abbrev pub broughtBy : Linked → FrameCall
-broughtBy (received signal offset interpolation seed control taps rows lines pulses output) =
+abbrev pub broughtBy : Linked → Call
+broughtBy x =
     record {
-      frame = Received (paramsOf signal offset interpolation seed);
-      control = controlIn control taps;
-      rows = rowsIn rows;
-      lines = part lines 0 16;
-      pulses = pulses;
-      output = output;
+      frame = frameIn (x .frame);
+      control = controlIn (x .frame) (x .coefs);
+      rows = rowsIn (x .coefs);
+      lines = linesIn (x .coefs);
+      pulses = x .pulses;
+      output = x .output;
     }
-broughtBy (lost control taps output) =
-    record { frame = Lost; control = controlIn control taps; rows = []; lines = []; pulses = []; output = output }
 
--- the slices as a call leaves them
-abbrev pub leftBy : Call → Held → Held
-leftBy k m = record { words = newWords k (m .words); halves = newHalves k (m .halves) }
+-- of a call's slices those that hold the state
+abbrev pub heldIn : Slices → Held
+heldIn m = record { words = m .words; halves = m .halves }
+
+-- as the call leaves them
+abbrev pub leftBy : Called → Held
+leftBy k = heldIn (k .after)
 
 -- the losses that count after a call: only an answer of 0 counts or ends the row, a refusal and −1 do neither
-unfoldable pub lossesAfter : Call → Frame → ℕ → ℕ
-lossesAfter k f n = cond (eqℤ (numberOf k) (pos 0)) (counted f n) n
+unfoldable pub lossesAfter : Called → Frame → ℕ → ℕ
+lossesAfter k f n = cond (eqℤ (k .answer) (pos 0)) (counted f n) n
 
 -- a call where it stands in a list: the slices that it gets, and the losses that count there
 pub record At : Type 0 where
@@ -64,4 +70,4 @@ pub record At : Type 0 where
 unfoldable pub linkedFrom : Held → ℕ → List Linked → List At
 linkedFrom m n [] = []
 linkedFrom m n (x ∷ xs) =
-    record { held = m; call = x; losses = n } ∷ linkedFrom (leftBy (callOf m x) m) (lossesAfter (callOf m x) (broughtBy x .frame) n) xs
+    record { held = m; call = x; losses = n } ∷ linkedFrom (leftBy (callOf m x)) (lossesAfter (callOf m x) (broughtBy x .frame) n) xs

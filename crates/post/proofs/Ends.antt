@@ -1,33 +1,75 @@
--- What a function's tests tell of the lent slices and of the refusal.
-use Prim.Native.Nat.{ℕ, _≤_}
-use mathlib.Core.Path.{_≡_, refl, sym, ap, _∙_}
-use mathlib.Core.Bool.{Bool, true, false, _||_, false≢true}
-use borrow.Author.Tests.{ltb-false}
-use lib.Dec.{ltb}
-use Rattle.word.proofs.Rows.{neither}
+-- How an exported call ends.
+use mathlib.Core.Path.{_≡_, refl, _∙_}
+use mathlib.Core.Bool.{Bool, true, false, cond}
+use mathlib.Core.List.{List}
+use lib.Dec.{eqb}
+use lib.IntN.{ℤ, pos}
+use Rattle.refusal.specs.Refusals.{refusalNumber, ifAccepted}
+use Rattle.refusal.specs.declared.Refusal.{Refusal}
+use Rattle.decoder.specs.declared.SilkDecoderState.{SilkDecoderState}
+use Rattle.decoder.specs.declared.SilkDecoderControl.{SilkDecoderControl}
+use Rattle.layout.specs.Layout.{withWords, withHalves}
+use Rattle.layout.specs.Frame.{withLags, withTaps}
+use Rattle.post.specs.Calls.{Slices, slices, called}
+use Rattle.post.specs.Stages.{withState, withControl}
 
--- two lengths that are not too short
-pub long : {a b m n : ℕ} → (ltb a m || ltb b n) ≡ false → (m ≤ a) × (n ≤ b)
-long {a} {b} {m} {n} e =
-    let h = neither (ltb a m) (ltb b n) e in
-    (ltb-false a m (h .0), ltb-false b n (h .1))
+-- slices that are each a new one or the one lent are all of one kind
+together : (b : Bool) (x y : Slices)
+    → slices (cond b (x .words) (y .words)) (cond b (x .halves) (y .halves)) (cond b (x .frame) (y .frame)) (cond b (x .coefs) (y .coefs)) (cond b (x .pulses) (y .pulses)) (cond b (x .output) (y .output)) ≡ cond b x y
+together true x y = refl
+together false x y = refl
 
--- the lengths of a call's slices, none of them too short
-module _ (a b c d : ℕ) where
-  pub state-long : ((ltb a 696 || ltb b 535) || (ltb c 9 || ltb d 20)) ≡ false → (696 ≤ a) × (535 ≤ b)
-  state-long e = long (neither (ltb a 696 || ltb b 535) (ltb c 9 || ltb d 20) e .0)
+-- a slice that the call leaves
+pub same : (r : Refusal) (x : List ℤ) → x ≡ ifAccepted r x x
+same r x = go (eqb (refusalNumber r) 0)
+  where
+    go : (b : Bool) → x ≡ cond b x x
+    go true = refl
+    go false = refl
 
-  pub control-long : ((ltb a 696 || ltb b 535) || (ltb c 9 || ltb d 20)) ≡ false → (9 ≤ c) × (20 ≤ d)
-  control-long e = long (neither (ltb a 696 || ltb b 535) (ltb c 9 || ltb d 20) e .1)
+-- samples that the library itself leaves on a refusal
+pub again : (r : Refusal) (x y : List ℤ) → ifAccepted r x y ≡ ifAccepted r (ifAccepted r x y) y
+again r x y = go (eqb (refusalNumber r) 0)
+  where
+    go : (b : Bool) → cond b x y ≡ cond b (cond b x y) y
+    go true = refl
+    go false = refl
 
-  pub without-rows : (n : ℕ) → (((ltb a 696 || ltb b 535) || (ltb c 9 || ltb d 20)) || ltb n 32) ≡ false → ((ltb a 696 || ltb b 535) || (ltb c 9 || ltb d 20)) ≡ false
-  without-rows n e = neither ((ltb a 696 || ltb b 535) || (ltb c 9 || ltb d 20)) (ltb n 32) e .0
+-- ---- a call whose slices are long enough
+pub ended : (r : Refusal) (new lent : Slices) {short : Bool} {z : ℤ} {w h f k p o : List ℤ}
+    → short ≡ false
+    → z ≡ pos (refusalNumber r)
+    → w ≡ ifAccepted r (new .words) (lent .words)
+    → h ≡ ifAccepted r (new .halves) (lent .halves)
+    → f ≡ ifAccepted r (new .frame) (lent .frame)
+    → k ≡ ifAccepted r (new .coefs) (lent .coefs)
+    → p ≡ ifAccepted r (new .pulses) (lent .pulses)
+    → o ≡ ifAccepted r (new .output) (lent .output)
+    → record { answer = z; after = slices w h f k p o } ≡ called short r new lent
+unfolding called
+ended r new lent e ez ew eh ef ek ep eo =
+    rw e
+    ((λ i. record { answer = ez i; after = slices (ew i) (eh i) (ef i) (ek i) (ep i) (eo i) })
+    ∙ λ i. record { answer = pos (refusalNumber r); after = together (eqb (refusalNumber r) 0) new lent i })
 
-  pub rows-long : (n : ℕ) → (((ltb a 696 || ltb b 535) || (ltb c 9 || ltb d 20)) || ltb n 32) ≡ false → 32 ≤ n
-  rows-long n e = ltb-false n 32 (neither ((ltb a 696 || ltb b 535) || (ltb c 9 || ltb d 20)) (ltb n 32) e .1)
+-- what the library answers is q and s, and the definition has r and t for them
+module _ (q r : Refusal) (s t : SilkDecoderState) (m : Slices) (output : List ℤ) {short : Bool} {z : ℤ} {w h o : List ℤ} where
+  -- a state is stored
+  pub state-ended : q ≡ r → s ≡ t → short ≡ false
+      → z ≡ pos (refusalNumber q)
+      → (w ≡ ifAccepted q (withWords (m .words) s) (m .words)) × (h ≡ ifAccepted q (withHalves (m .halves) s) (m .halves))
+      → o ≡ ifAccepted r output (m .output)
+      → record { answer = z; after = slices w h (m .frame) (m .coefs) (m .pulses) o } ≡ called short r (withState m t output) m
+  state-ended eq es e ez g eo =
+      ended r (withState m t output) m e (ez ∙ λ i. pos (refusalNumber (eq i))) (g .0 ∙ λ i. ifAccepted (eq i) (withWords (m .words) (es i)) (m .words)) (g .1 ∙ λ i. ifAccepted (eq i) (withHalves (m .halves) (es i)) (m .halves)) (same r (m .frame)) (same r (m .coefs)) (same r (m .pulses)) eo
 
-  pub without-lines : (n m : ℕ) → ((((ltb a 696 || ltb b 535) || (ltb c 9 || ltb d 20)) || ltb n 32) || ltb m 16) ≡ false → (((ltb a 696 || ltb b 535) || (ltb c 9 || ltb d 20)) || ltb n 32) ≡ false
-  without-lines n m e = neither (((ltb a 696 || ltb b 535) || (ltb c 9 || ltb d 20)) || ltb n 32) (ltb m 16) e .0
-
-  pub lines-long : (n m : ℕ) → ((((ltb a 696 || ltb b 535) || (ltb c 9 || ltb d 20)) || ltb n 32) || ltb m 16) ≡ false → 16 ≤ m
-  lines-long n m e = ltb-false m 16 (neither (((ltb a 696 || ltb b 535) || (ltb c 9 || ltb d 20)) || ltb n 32) (ltb m 16) e .1)
+  -- a state and a description are
+  pub control-ended : (c d : SilkDecoderControl) {f k : List ℤ} → q ≡ r → s ≡ t → c ≡ d → short ≡ false
+      → z ≡ pos (refusalNumber q)
+      → (w ≡ ifAccepted q (withWords (m .words) s) (m .words)) × (h ≡ ifAccepted q (withHalves (m .halves) s) (m .halves))
+      → f ≡ ifAccepted q (withLags (m .frame) c) (m .frame)
+      → k ≡ ifAccepted q (withTaps (m .coefs) c) (m .coefs)
+      → o ≡ ifAccepted r output (m .output)
+      → record { answer = z; after = slices w h f k (m .pulses) o } ≡ called short r (withControl m t d output) m
+  control-ended c d eq es ec e ez g ef ek eo =
+      ended r (withControl m t d output) m e (ez ∙ λ i. pos (refusalNumber (eq i))) (g .0 ∙ λ i. ifAccepted (eq i) (withWords (m .words) (es i)) (m .words)) (g .1 ∙ λ i. ifAccepted (eq i) (withHalves (m .halves) (es i)) (m .halves)) (ef ∙ λ i. ifAccepted (eq i) (withLags (m .frame) (ec i)) (m .frame)) (ek ∙ λ i. ifAccepted (eq i) (withTaps (m .coefs) (ec i)) (m .coefs)) (same r (m .pulses)) eo

@@ -1,90 +1,99 @@
--- Set-up and the stages as exported functions: the library's calls on what the slices hold.
+-- The exported functions: set-up, the whole frame and the stages, on what the slices hold.
 use Prim.Native.Nat.{ℕ}
-use mathlib.Core.Bool.{Bool, _||_}
-use mathlib.Core.List.{List, []}
-use lib.Dec.{ltb}
-use lib.IntN.{ℤ, pos}
+use mathlib.Core.Bool.{Bool}
+use mathlib.Core.List.{List}
+use lib.IntN.{ℤ}
 use lib.ListN.{length}
-use Rattle.decoder.specs.Signals.{signalOf}
 use Rattle.decoder.specs.SetUp.{setUp}
-use Rattle.decoder.specs.declared.Params.{Params}
-use Rattle.glue.specs.Answer.{glueAnswer}
-use Rattle.cng.specs.Answer.{cngAnswer}
-use Rattle.plc.specs.Answer.{plcReceived, plcLost}
-use Rattle.plc.specs.declared.PlcLostAnswer.{PlcLostAnswer}
-use Rattle.decode_core.specs.Answer.{coreAnswer}
-use Rattle.decode_core.specs.declared.CoreAnswer.{CoreAnswer}
-use Rattle.decoder.specs.declared.Frame.the-variants.{Received, Lost}
-use Rattle.decode_frame.specs.Call.{frameCall}
-use Rattle.decode_frame.specs.Answer.{frameAnswer}
-use Rattle.decode_frame.specs.declared.FrameAnswer.{FrameAnswer}
-use Rattle.layout.specs.Layout.{shortState, shortControl, stateIn, controlIn, rowsIn, part}
-use Rattle.post.specs.Calls.{Call}
+use Rattle.decoder.specs.declared.Frame.{Frame}
+use Rattle.decoder.specs.declared.SilkDecoderState.{SilkDecoderState}
+use Rattle.decoder.specs.declared.SilkDecoderControl.{SilkDecoderControl}
+use Rattle.glue.specs.Answer.{glueAnswer, glueOutput}
+use Rattle.cng.specs.Answer.{cngAnswer, cngOutput}
+use Rattle.plc.specs.Answer.{plcReceived, plcLost, plcLostOutput}
+use Rattle.decode_core.specs.Answer.{coreAnswer, coreOutput}
+use Rattle.decode_frame.specs.Call.{frameCall as wholeCall}
+use Rattle.decode_frame.specs.Answer.{frameAnswer, frameOutput}
+use Rattle.layout.specs.Layout.{shortState, stateIn, withWords, withHalves}
+use Rattle.layout.specs.Frame.{shortFrame, shortCall, frameIn, paramsIn, controlIn, tapless, rowsIn, linesIn, withLags, withTaps}
+use Rattle.post.specs.Calls.{Slices, slices, Called, called}
 
--- a received frame's small numbers
-unfoldable pub paramsOf : ℤ → ℤ → ℤ → ℤ → Params
-paramsOf signal offset interpolation seed =
-    record { signal = signalOf signal; «quant_offset_type» = offset; «nlsf_interp_coef_q2» = interpolation; seed = seed }
+-- a slice is too short: one of a state's, of a state's and a frame's, or of these and the coefficients
+module _ (m : Slices) where
+  abbrev pub stateShort : Bool
+  stateShort = shortState (length (m .words)) (length (m .halves))
 
-abbrev pub setUpCall : ℤ → ℤ → List ℤ → List ℤ → Call
-setUpCall rate subframes words halves =
-    record { short = shortState words halves; refusal = setUp rate subframes .refusal; state = setUp rate subframes .state }
+  abbrev pub frameShort : Bool
+  frameShort = shortFrame (length (m .words)) (length (m .halves)) (length (m .frame))
 
-module _ (words halves : List ℤ) where
-  abbrev pub glueCall : List ℤ → ℕ → Call
-  glueCall buffer n =
-      let a = glueAnswer (stateIn words halves) buffer n in
-      record { short = shortState words halves; refusal = a .refusal; state = a .state }
+  abbrev pub callShort : Bool
+  callShort = shortCall (length (m .words)) (length (m .halves)) (length (m .frame)) (length (m .coefs))
 
-  module _ (control taps : List ℤ) where
-    unfoldable pub shortCall : Bool
-    shortCall = shortState words halves || shortControl control taps
+  abbrev pub stateOf : SilkDecoderState
+  stateOf = stateIn (m .words) (m .halves)
 
-    abbrev pub noiseCall : List ℤ → ℕ → Call
-    noiseCall buffer n =
-        let a = cngAnswer (stateIn words halves) (controlIn control taps) buffer n in
-        record { short = shortCall; refusal = a .refusal; state = a .state }
+  abbrev pub controlOf : SilkDecoderControl
+  controlOf = controlIn (m .frame) (m .coefs)
 
-    abbrev pub lostBy : List ℤ → PlcLostAnswer
-    lostBy output = plcLost (stateIn words halves) (controlIn control taps) output
+  -- the slices with a new state and new samples
+  abbrev pub withState : SilkDecoderState → List ℤ → Slices
+  withState s output = slices (withWords (m .words) s) (withHalves (m .halves) s) (m .frame) (m .coefs) (m .pulses) output
 
-    abbrev pub plcLostCall : List ℤ → Call
-    plcLostCall output =
-        record { short = shortCall; refusal = lostBy output .refusal; state = lostBy output .state }
+  -- and with a new description: its lags and taps
+  abbrev pub withControl : SilkDecoderState → SilkDecoderControl → List ℤ → Slices
+  withControl s c output =
+      slices (withWords (m .words) s) (withHalves (m .halves) s) (withLags (m .frame) c) (withTaps (m .coefs) c) (m .pulses) output
 
-    -- a whole lost frame, which brings no coefficients, lines or pulses
-    abbrev pub frameLostBy : List ℤ → FrameAnswer
-    frameLostBy output = frameAnswer (stateIn words halves) (frameCall Lost (controlIn control taps) [] [] [] output)
+-- a state for a rate and a count of subframes
+unfoldable pub setUpCall : ℤ → ℤ → Slices → Called
+setUpCall rate subframes m =
+    let a = setUp rate subframes in
+    called (stateShort m) (a .refusal) (withState m (a .state) (m .output)) m
 
-    abbrev pub frameLostCall : List ℤ → Call
-    frameLostCall output =
-        record { short = shortCall; refusal = frameLostBy output .refusal; state = frameLostBy output .state }
+-- a whole frame
+unfoldable pub playedCall : Frame → Slices → Called
+playedCall f m =
+    let x = wholeCall f (controlOf m) (rowsIn (m .coefs)) (linesIn (m .coefs)) (m .pulses) (m .output) in
+    let a = frameAnswer (stateOf m) x in
+    called (callShort m) (a .refusal) (withControl m (a .state) (a .control) (frameOutput (stateOf m) x)) m
 
-    module _ (rows : List ℤ) where
-      unfoldable pub shortFrame : Bool
-      shortFrame = shortCall || ltb (length rows) 32
+-- the frame in the slices, received or lost
+unfoldable pub frameCall : Slices → Called
+frameCall m = playedCall (frameIn (m .frame)) m
 
-      abbrev pub plcReceivedCall : Params → Call
-      plcReceivedCall q =
-          let a = plcReceived (stateIn words halves) q (controlIn control taps) (rowsIn rows) in
-          record { short = shortFrame; refusal = a .refusal; state = a .state }
+-- the synthesis of a received frame
+unfoldable pub coreCall : Slices → Called
+coreCall m =
+    let q = paramsIn (m .frame) in
+    let a = coreAnswer (stateOf m) q (controlOf m) (rowsIn (m .coefs)) (m .pulses) (m .output) in
+    let played = coreOutput (stateOf m) q (controlOf m) (rowsIn (m .coefs)) (m .pulses) (m .output) in
+    called (callShort m) (a .refusal) (withControl m (a .state) (a .control) played) m
 
-      abbrev pub coreBy : Params → List ℤ → List ℤ → CoreAnswer
-      coreBy q pulses output = coreAnswer (stateIn words halves) q (controlIn control taps) (rowsIn rows) pulses output
+-- what concealment keeps of a received frame
+unfoldable pub plcReceivedCall : Slices → Called
+plcReceivedCall m =
+    let a = plcReceived (stateOf m) (paramsIn (m .frame)) (controlOf m) (rowsIn (m .coefs)) in
+    called (callShort m) (a .refusal) (withState m (a .state) (m .output)) m
 
-      abbrev pub coreCall : Params → List ℤ → List ℤ → Call
-      coreCall q pulses output =
-          record { short = shortFrame; refusal = coreBy q pulses output .refusal; state = coreBy q pulses output .state }
+-- the concealment of a lost frame, of whose description it writes the lags alone
+unfoldable pub plcLostCall : Slices → Called
+plcLostCall m =
+    let c = tapless (m .frame) in
+    let a = plcLost (stateOf m) c (m .output) in
+    let concealed = plcLostOutput (stateOf m) c (m .output) in
+    called (frameShort m) (a .refusal)
+    (slices (withWords (m .words) (a .state)) (withHalves (m .halves) (a .state)) (withLags (m .frame) (a .control)) (m .coefs) (m .pulses) concealed)
+    m
 
-      module _ (lines : List ℤ) where
-        unfoldable pub shortLines : Bool
-        shortLines = shortFrame || ltb (length lines) 16
+-- gluing of the first n samples
+unfoldable pub glueCall : ℕ → Slices → Called
+glueCall n m =
+    let a = glueAnswer (stateOf m) (m .output) n in
+    called (stateShort m) (a .refusal) (withState m (a .state) (glueOutput (stateOf m) (m .output) n)) m
 
-        -- a whole received frame
-        abbrev pub frameReceivedBy : Params → List ℤ → List ℤ → FrameAnswer
-        frameReceivedBy q pulses output =
-            frameAnswer (stateIn words halves) (frameCall (Received q) (controlIn control taps) (rowsIn rows) (part lines 0 16) pulses output)
-
-        abbrev pub frameReceivedCall : Params → List ℤ → List ℤ → Call
-        frameReceivedCall q pulses output =
-            record { short = shortLines; refusal = frameReceivedBy q pulses output .refusal; state = frameReceivedBy q pulses output .state }
+-- comfort noise on the first n samples
+unfoldable pub noiseCall : ℕ → Slices → Called
+noiseCall n m =
+    let c = tapless (m .frame) in
+    let a = cngAnswer (stateOf m) c (m .output) n in
+    called (frameShort m) (a .refusal) (withState m (a .state) (cngOutput (stateOf m) c (m .output) n)) m

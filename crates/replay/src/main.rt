@@ -14,60 +14,54 @@ ghost use mathlib.Core.Path.{_≡_};
 ghost use Prim.Native.Nat.{_≤_, _^_, min};
 ghost use lib.IntN.{pos};
 ghost use lib.ListN.{length, replicate, getD, take};
-ghost use mir.Syntax.{w8};
-ghost use Rattle.word.specs.Int.{wrap, modℤ};
+ghost use Rattle.word.specs.Int.{modℤ};
 ghost use Rattle.replay.specs.Put.{room, shorts, put};
 ghost use Rattle.replay.specs.Sum.{sumAll};
 
 const SET_UP: i32 = 0;
 
-const RECEIVED: i32 = 1;
+const FRAME: i32 = 1;
 
-const LOST: i32 = 2;
+const CORE: i32 = 2;
 
-const CORE: i32 = 3;
+const PLC_RECEIVED: i32 = 3;
 
-const PLC_RECEIVED: i32 = 4;
+const PLC_LOST: i32 = 4;
 
-const PLC_LOST: i32 = 5;
+const GLUE: i32 = 5;
 
-const GLUE: i32 = 6;
+const NOISE: i32 = 6;
 
-const NOISE: i32 = 7;
+const PLAYED: i32 = 7;
 
-const PLAYED: i32 = 8;
+const STABILITY: i32 = 8;
 
-const STABILITY: i32 = 9;
-
-const FILTER: i32 = 10;
+const FILTER: i32 = 9;
 
 const WORDS: i32 = 20;
 
 const HALVES: i32 = 21;
 
-const CONTROL: i32 = 22;
+const FRAME_NUMBERS: i32 = 22;
 
-const TAPS: i32 = 23;
+const COEFS: i32 = 23;
 
-const ROWS: i32 = 24;
+const LINES: i32 = 24;
 
-const LINES: i32 = 25;
+const PULSES: i32 = 25;
 
-const PULSES: i32 = 26;
+const OUTPUT: i32 = 26;
 
-const OUTPUT: i32 = 27;
+const COEFFICIENTS: i32 = 27;
 
-const COEFFICIENTS: i32 = 28;
-
-const RESULT: i32 = 29;
+const RESULT: i32 = 28;
 
 // What calls are lent parts of: all is kept from call to call.
 struct Lent {
     words: [i32; 704],
     halves: [i16; 544],
-    control: [i32; 16],
-    taps: [i16; 32],
-    rows: [i16; 40],
+    frame: [i32; 24],
+    coefs: [i16; 80],
     lines: [i16; 24],
     pulses: [i16; 400],
     output: [i16; 400],
@@ -93,6 +87,12 @@ fn halves() -> [i16; 544]
     [0; 544]
 }
 
+fn coefs() -> [i16; 80]
+    ensures { λ r. ⌜ r ≡ replicate 80 (pos 0) ⌝ }
+{
+    [0; 80]
+}
+
 fn samples() -> [i16; 400]
     ensures { λ r. ⌜ r ≡ replicate 400 (pos 0) ⌝ }
 {
@@ -103,35 +103,22 @@ fn nothing() -> Lent {
     let words = words();
     let halves = halves();
     let samples = samples();
-    let control = [0; 16];
-    let taps = [0i16; 32];
-    let rows = [0i16; 40];
+    let frame = [0; 24];
+    let coefs = coefs();
     let lines = [0i16; 24];
     let coefficients = [0i16; 48];
     let result = [0; 16];
     Lent {
         words,
         halves,
-        control,
-        taps,
-        rows,
+        frame,
+        coefs,
         lines,
         pulses: samples,
         output: samples,
         coefficients,
         result,
     }
-}
-
-// The low 8 bits.
-fn low8(x: i16) -> i8
-    ensures { λ r. ⌜ r ≡ wrap w8 x ⌝ }
-{
-    ((x << 8) >> 8) as i8
-}
-
-fn small(n: i32) -> i8 {
-    low8(low16(n))
 }
 
 fn size(n: i32) -> usize
@@ -176,15 +163,15 @@ fn front16(numbers: &[i16], n: i32) -> &[i16]
     &numbers[..m]
 }
 
-// A call's line: the call, four numbers, and how much of each slice is lent, in the order of Lent.
+// A call's line: the call, two numbers, and how much of each slice is lent, in the order of Lent.
 fn set_up(l: Lent, row: [i32; 64]) -> Called {
     let mut words = l.words;
     let mut halves = l.halves;
     let answer = post::post_set_up(
         row[1],
         row[2],
-        first32(&mut words, row[5]),
-        first16(&mut halves, row[6]),
+        first32(&mut words, row[3]),
+        first16(&mut halves, row[4]),
     );
     let mut left = l;
     left.words = words;
@@ -192,60 +179,26 @@ fn set_up(l: Lent, row: [i32; 64]) -> Called {
     Called { answer, left }
 }
 
-fn received(l: Lent, row: [i32; 64]) -> Called {
+fn frame(l: Lent, row: [i32; 64]) -> Called {
     let mut words = l.words;
     let mut halves = l.halves;
-    let mut control = l.control;
-    let mut taps = l.taps;
-    let rows = l.rows;
-    let lines = l.lines;
+    let mut frame = l.frame;
+    let mut coefs = l.coefs;
     let pulses = l.pulses;
     let mut output = l.output;
-    let signal = small(row[1]);
-    let offset = small(row[2]);
-    let interpolation = small(row[3]);
-    let seed = small(row[4]);
-    let answer = post::post_received(
-        first32(&mut words, row[5]),
-        first16(&mut halves, row[6]),
-        signal,
-        offset,
-        interpolation,
-        seed,
-        first32(&mut control, row[7]),
-        first16(&mut taps, row[8]),
-        front16(&rows, row[9]),
-        front16(&lines, row[10]),
-        front16(&pulses, row[11]),
-        first16(&mut output, row[12]),
+    let answer = post::post_frame(
+        first32(&mut words, row[3]),
+        first16(&mut halves, row[4]),
+        first32(&mut frame, row[5]),
+        first16(&mut coefs, row[6]),
+        front16(&pulses, row[8]),
+        first16(&mut output, row[9]),
     );
     let mut left = l;
     left.words = words;
     left.halves = halves;
-    left.control = control;
-    left.taps = taps;
-    left.output = output;
-    Called { answer, left }
-}
-
-fn lost(l: Lent, row: [i32; 64]) -> Called {
-    let mut words = l.words;
-    let mut halves = l.halves;
-    let mut control = l.control;
-    let mut taps = l.taps;
-    let mut output = l.output;
-    let answer = post::post_lost(
-        first32(&mut words, row[5]),
-        first16(&mut halves, row[6]),
-        first32(&mut control, row[7]),
-        first16(&mut taps, row[8]),
-        first16(&mut output, row[12]),
-    );
-    let mut left = l;
-    left.words = words;
-    left.halves = halves;
-    left.control = control;
-    left.taps = taps;
+    left.frame = frame;
+    left.coefs = coefs;
     left.output = output;
     Called { answer, left }
 }
@@ -253,33 +206,23 @@ fn lost(l: Lent, row: [i32; 64]) -> Called {
 fn core(l: Lent, row: [i32; 64]) -> Called {
     let mut words = l.words;
     let mut halves = l.halves;
-    let mut control = l.control;
-    let mut taps = l.taps;
-    let rows = l.rows;
+    let mut frame = l.frame;
+    let mut coefs = l.coefs;
     let pulses = l.pulses;
     let mut output = l.output;
-    let signal = small(row[1]);
-    let offset = small(row[2]);
-    let interpolation = small(row[3]);
-    let seed = small(row[4]);
     let answer = post::post_core(
-        first32(&mut words, row[5]),
-        first16(&mut halves, row[6]),
-        signal,
-        offset,
-        interpolation,
-        seed,
-        first32(&mut control, row[7]),
-        first16(&mut taps, row[8]),
-        front16(&rows, row[9]),
-        front16(&pulses, row[11]),
-        first16(&mut output, row[12]),
+        first32(&mut words, row[3]),
+        first16(&mut halves, row[4]),
+        first32(&mut frame, row[5]),
+        first16(&mut coefs, row[6]),
+        front16(&pulses, row[8]),
+        first16(&mut output, row[9]),
     );
     let mut left = l;
     left.words = words;
     left.halves = halves;
-    left.control = control;
-    left.taps = taps;
+    left.frame = frame;
+    left.coefs = coefs;
     left.output = output;
     Called { answer, left }
 }
@@ -287,48 +230,35 @@ fn core(l: Lent, row: [i32; 64]) -> Called {
 fn plc_received(l: Lent, row: [i32; 64]) -> Called {
     let mut words = l.words;
     let mut halves = l.halves;
-    let mut control = l.control;
-    let mut taps = l.taps;
-    let rows = l.rows;
-    let signal = small(row[1]);
-    let offset = small(row[2]);
-    let interpolation = small(row[3]);
+    let frame = l.frame;
+    let coefs = l.coefs;
     let answer = post::post_plc_received(
-        first32(&mut words, row[5]),
-        first16(&mut halves, row[6]),
-        signal,
-        offset,
-        interpolation,
-        first32(&mut control, row[7]),
-        first16(&mut taps, row[8]),
-        front16(&rows, row[9]),
+        first32(&mut words, row[3]),
+        first16(&mut halves, row[4]),
+        front32(&frame, row[5]),
+        front16(&coefs, row[6]),
     );
     let mut left = l;
     left.words = words;
     left.halves = halves;
-    left.control = control;
-    left.taps = taps;
     Called { answer, left }
 }
 
 fn plc_lost(l: Lent, row: [i32; 64]) -> Called {
     let mut words = l.words;
     let mut halves = l.halves;
-    let mut control = l.control;
-    let mut taps = l.taps;
+    let mut frame = l.frame;
     let mut output = l.output;
     let answer = post::post_plc_lost(
-        first32(&mut words, row[5]),
-        first16(&mut halves, row[6]),
-        first32(&mut control, row[7]),
-        first16(&mut taps, row[8]),
-        first16(&mut output, row[12]),
+        first32(&mut words, row[3]),
+        first16(&mut halves, row[4]),
+        first32(&mut frame, row[5]),
+        first16(&mut output, row[9]),
     );
     let mut left = l;
     left.words = words;
     left.halves = halves;
-    left.control = control;
-    left.taps = taps;
+    left.frame = frame;
     left.output = output;
     Called { answer, left }
 }
@@ -339,9 +269,9 @@ fn glue(l: Lent, row: [i32; 64]) -> Called {
     let mut output = l.output;
     let length = size(row[1]);
     let answer = post::post_glue(
-        first32(&mut words, row[5]),
-        first16(&mut halves, row[6]),
-        first16(&mut output, row[12]),
+        first32(&mut words, row[3]),
+        first16(&mut halves, row[4]),
+        first16(&mut output, row[9]),
         length,
     );
     let mut left = l;
@@ -354,16 +284,14 @@ fn glue(l: Lent, row: [i32; 64]) -> Called {
 fn noise(l: Lent, row: [i32; 64]) -> Called {
     let mut words = l.words;
     let mut halves = l.halves;
-    let control = l.control;
-    let taps = l.taps;
+    let frame = l.frame;
     let mut output = l.output;
     let length = size(row[1]);
     let answer = post::post_noise(
-        first32(&mut words, row[5]),
-        first16(&mut halves, row[6]),
-        front32(&control, row[7]),
-        front16(&taps, row[8]),
-        first16(&mut output, row[12]),
+        first32(&mut words, row[3]),
+        first16(&mut halves, row[4]),
+        front32(&frame, row[5]),
+        first16(&mut output, row[9]),
         length,
     );
     let mut left = l;
@@ -375,7 +303,7 @@ fn noise(l: Lent, row: [i32; 64]) -> Called {
 
 fn played(l: Lent, row: [i32; 64]) -> Called {
     let output = l.output;
-    let answer = post::post_played(row[1], row[2], front16(&output, row[12]));
+    let answer = post::post_played(row[1], row[2], front16(&output, row[9]));
     Called { answer, left: l }
 }
 
@@ -384,9 +312,9 @@ fn stability(l: Lent, row: [i32; 64]) -> Called {
     let mut result = l.result;
     let order = size(row[1]);
     let answer = post_filters::post_stability(
-        front16(&coefficients, row[13]),
+        front16(&coefficients, row[10]),
         order,
-        first32(&mut result, row[14]),
+        first32(&mut result, row[11]),
     );
     let mut left = l;
     left.result = result;
@@ -398,8 +326,8 @@ fn filter(l: Lent, row: [i32; 64]) -> Called {
     let lines = l.lines;
     let order = size(row[1]);
     let answer = post_filters::post_filter(
-        first16(&mut coefficients, row[13]),
-        front16(&lines, row[10]),
+        first16(&mut coefficients, row[10]),
+        front16(&lines, row[7]),
         order,
     );
     let mut left = l;
@@ -415,8 +343,7 @@ fn unknown(l: Lent) -> Called {
 fn made(l: Lent, row: [i32; 64]) -> Called {
     match row[0] {
         SET_UP => set_up(l, row),
-        RECEIVED => received(l, row),
-        LOST => lost(l, row),
+        FRAME => frame(l, row),
         CORE => core(l, row),
         PLC_RECEIVED => plc_received(l, row),
         PLC_LOST => plc_lost(l, row),
@@ -488,20 +415,15 @@ fn stored(l: Lent, row: [i32; 64], count: usize) -> Lent {
             put16(&mut halves, row, count);
             new.halves = halves;
         }
-        CONTROL => {
-            let mut control = l.control;
-            put32(&mut control, row, count);
-            new.control = control;
+        FRAME_NUMBERS => {
+            let mut frame = l.frame;
+            put32(&mut frame, row, count);
+            new.frame = frame;
         }
-        TAPS => {
-            let mut taps = l.taps;
-            put16(&mut taps, row, count);
-            new.taps = taps;
-        }
-        ROWS => {
-            let mut rows = l.rows;
-            put16(&mut rows, row, count);
-            new.rows = rows;
+        COEFS => {
+            let mut coefs = l.coefs;
+            put16(&mut coefs, row, count);
+            new.coefs = coefs;
         }
         LINES => {
             let mut lines = l.lines;
@@ -539,15 +461,15 @@ fn sum(l: Lent) -> i32
 {
     let words = l.words;
     let halves = l.halves;
-    let control = l.control;
-    let taps = l.taps;
+    let frame = l.frame;
+    let coefs = l.coefs;
     let output = l.output;
     let coefficients = l.coefficients;
     let result = l.result;
     let a = sum32(0, &words);
     let b = sum16(a, &halves);
-    let c = sum32(b, &control);
-    let d = sum16(c, &taps);
+    let c = sum32(b, &frame);
+    let d = sum16(c, &coefs);
     let e = sum16(d, &output);
     let f = sum16(e, &coefficients);
     sum32(f, &result)

@@ -1,63 +1,54 @@
+use Prim.Native.Nat.{_≤_}
 use mathlib.Core.Path.{sym, _∙_}
-use borrow.Author.Needs.{needs}
 use lib.ListN.{length}
-use lib.IntN.{pos}
 use mir.Syntax.{w32}
 use Rattle.word.proofs.Words.{kept}
-use Rattle.refusal.specs.Refusals.{refusalNumber, ifAccepted}
-use Rattle.sigproc.specs.Place.{putAt}
-use Rattle.layout.specs.Layout.{shortState, shortControl, stateWords, stateHalves}
 use Rattle.cng.specs.Answer.{cngAnswer, cngOutput}
-use Rattle.post.specs.Stages.{shortCall}
-use Rattle.post.proofs.Ends.{state-long, control-long}
+use Rattle.layout.specs.Layout.{WORDS, HALVES, stateIn}
+use Rattle.layout.specs.Frame.{FRAME, tapless}
+use Rattle.layout.proofs.Slices.{frame-long}
+use Rattle.post.specs.Calls.{called}
+use Rattle.post.specs.Stages.{noiseCall}
+use Rattle.post.proofs.Ends.{again, state-ended}
 use Rattle.post.proofs.post_noise.Statement.{statement}
 use Rattle.post.proofs.post_noise.Tie as tie
 
+-- the lengths of the slices
+long : (c : tie.Else1) → let a = c .before .before .args in (WORDS ≤ length (a .words .now)) × (HALVES ≤ length (a .halves .now)) × (FRAME ≤ length (a .frame .now))
+long c =
+    let a = c .before .before .args in
+    frame-long (length (a .words .now)) (length (a .halves .now)) (length (a .frame .now)) (sym (c .before .short-frame .ensures) ∙ c .if1 .left)
+
 returns : tie.Need-returns
-unfolding shortState shortControl shortCall
-returns c =
-    let h = sym (c .before .short-call .ensures) ∙ c .if1 .taken in
-    (rw h, rw h, rw h, rw h)
+unfolding noiseCall called
+returns c = rw (sym (c .before .short-frame .ensures) ∙ c .if1 .taken)
 
 state-in-requires : tie.Need-state-in-requires
-state-in-requires c κs =
-    let k = c .before .before in
-    let a = k .before .before .args in
-    let h = sym (k .before .short-call .ensures) ∙ k .if1 .left in
-    state-long (length (a .words .now)) (length (a .halves .now)) (length (a .control .now)) (length (a .taps .now)) h
+state-in-requires c κs = let l = long (c .before .before) in (l .0, l .1)
 
-control-in-requires : tie.Need-control-in-requires
-control-in-requires c κs =
-    let k = c .before .before .before in
-    let a = k .before .before .args in
-    let h = sym (k .before .short-call .ensures) ∙ k .if1 .left in
-    control-long (length (a .words .now)) (length (a .halves .now)) (length (a .control .now)) (length (a .taps .now)) h
+tapless-requires : tie.Need-tapless-requires
+tapless-requires c κs = long (c .before .before .before) .2
 
 keep-state-requires : tie.Need-keep-state-requires
-keep-state-requires c κs =
-    let k = c .before .before .before .before .before .before .before .before .before .before in
-    let a = k .before .before .args in
-    let h = sym (k .before .short-call .ensures) ∙ k .if1 .left in
-    state-long (length (a .words .now)) (length (a .halves .now)) (length (a .control .now)) (length (a .taps .now)) h
+keep-state-requires c κs = let l = long (c .before .before .before .before .before .before .before .before .before .before) in (l .0, l .1)
 
 returns-2 : tie.Need-returns-2
-unfolding shortState shortControl shortCall
+unfolding noiseCall cngAnswer cngOutput
 returns-2 c =
     let k = c .before .before .before .before .before .before .before .before .before .before .before .before .before .before in
     let a = k .before .before .args in
-    let h = sym (k .before .short-call .ensures) ∙ k .if1 .left in
     let x = c .before .before .before .before .before .before .before .before .before .before .before .state-in .ensures in
-    let y = c .before .before .before .before .before .before .before .before .before .before .control-in .ensures in
+    let y = c .before .before .before .before .before .before .before .before .before .before .tapless .ensures in
     let e = c .before .before .before .before .before .before .before .before .silk-cng .ensures in
+    let d = cngAnswer (stateIn (a .words .now) (a .halves .now)) (tapless (a .frame .now)) (a .buffer .now) (a .n) in
     let r = e .0 ∙ λ i. cngAnswer (x i) (y i) (a .buffer .now) (a .n) in
-    let g = c .before .before .before .keep-state .ensures in (
-      rw h (kept w32 _ (c .code .ok) ∙ c .code .ensures ∙ λ i. pos (refusalNumber (r i .refusal))),
-      rw h (g .0 ∙ λ i. ifAccepted (r i .refusal) (putAt (a .words .now) 0 (stateWords (r i .state))) (a .words .now)),
-      rw h (g .1 ∙ λ i. ifAccepted (r i .refusal) (putAt (a .halves .now) 0 (stateHalves (r i .state))) (a .halves .now)),
-      rw h (e .1 ∙ λ i. cngOutput (x i) (y i) (a .buffer .now) (a .n)),
-    )
+    state-ended _ _ _ _ _ _ (λ i. r i .refusal) (λ i. r i .state)
+    (sym (k .before .short-frame .ensures) ∙ k .if1 .left)
+    (kept w32 _ (c .code .ok) ∙ c .code .ensures)
+    (c .before .before .before .keep-state .ensures)
+    (e .1 ∙ (λ i. cngOutput (x i) (y i) (a .buffer .now) (a .n)) ∙ again (d .refusal) _ _)
 
 pub post-noise-spec : {M : Type 1} → statement M
 post-noise-spec =
     tie.close
-    (tie.spec (λ c κs. tt) returns state-in-requires control-in-requires (λ c κs. tt) keep-state-requires (λ c κs. tt) (λ c. search needs) (λ c. search needs) (λ c. search needs) returns-2)
+    (tie.spec (λ c κs. tt) returns state-in-requires tapless-requires (λ c κs. tt) keep-state-requires (λ c κs. tt) (λ c. c .before .before .before .keep-state .kept .1 .1 .0) (λ c. c .before .before .before .keep-state .kept .1 .1 .1 .0) (λ c. c .before .before .before .before .before .before .before .before .silk-cng .kept .1 .1 .0) returns-2)

@@ -1,5 +1,5 @@
 use mathlib.Core.Path.{refl, _∙_}
-use mir.Syntax.{w8, w16, w32}
+use mir.Syntax.{w8, w16}
 use mir.Val.{SFits}
 use mir.Facts.{toZ-ofZ}
 use Rattle.word.specs.Int.{wrap, wrap16}

@@ -4,7 +4,7 @@ use native.Mathlib.Omega.{arith}
 use borrow.Author.Tests.{leb-true}
 use lib.Dec.{leb}
 use lib.IntN.{ℤ, pos, negsuc}
-use mir.Syntax.{w8, w32}
+use mir.Syntax.{w8}
 use mir.Val.{SFits}
 use mir.Facts.{toZ-ofZ}
 use Rattle.word.proofs.Words.{back, back-fits}

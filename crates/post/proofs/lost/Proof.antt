@@ -1,0 +1,62 @@
+use Prim.Native.Nat.{_≤_}
+use mathlib.Core.Path.{_∙_}
+use mathlib.Core.List.{[]}
+use native.Mathlib.Omega.{arith}
+use lib.ListN.{length}
+use mir.Syntax.{w32}
+use Rattle.word.proofs.Words.{kept}
+use Rattle.decoder.specs.declared.Frame.the-variants.{Lost}
+use Rattle.decode_frame.specs.WholeFrame.{wholeFrame}
+use Rattle.decode_frame.specs.Call.{frameCall as wholeCall}
+use Rattle.decode_frame.specs.Answer.{frameRefusal, frameAnswer, frameOutput}
+use Rattle.layout.specs.Layout.{WORDS, HALVES, stateIn}
+use Rattle.layout.specs.Frame.{FRAME, COEFS, controlIn}
+use Rattle.layout.proofs.Slices.{call-long}
+use Rattle.post.specs.Stages.{playedCall}
+use Rattle.post.proofs.Ends.{again, control-ended}
+use Rattle.post.proofs.lost.Statement.{statement}
+use Rattle.post.proofs.lost.Tie as tie
+
+-- the lengths of the slices
+long : (c : tie.Start) → let a = c .args in (WORDS ≤ length (a .words .now)) × (HALVES ≤ length (a .halves .now)) × (FRAME ≤ length (a .frame .now)) × (COEFS ≤ length (a .coefs .now))
+long c =
+    let a = c .args in
+    call-long (length (a .words .now)) (length (a .halves .now)) (length (a .frame .now)) (length (a .coefs .now)) (c .pre)
+
+state-in-requires : tie.Need-state-in-requires
+state-in-requires c κs = let l = long (c .before .before) in (l .0, l .1)
+
+control-in-requires : tie.Need-control-in-requires
+control-in-requires c κs = let l = long (c .before .before .before .before .before) in (l .2, omega (arith, l .3))
+
+keep-state-requires : tie.Need-keep-state-requires
+keep-state-requires c κs = let l = long (c .before .before .before .before .before .before .before .before .before .before .before .before .before) in (l .0, l .1)
+
+keep-lags-requires : tie.Need-keep-lags-requires
+keep-lags-requires c κs = long (c .before .before .before .before .before .before .before .before .before .before .before .before .before .before .before .before .before) .2
+
+keep-taps-requires : tie.Need-keep-taps-requires
+keep-taps-requires c κs = long (c .before .before .before .before .before .before .before .before .before .before .before .before .before .before .before .before .before .before .before .before) .3
+
+returns : tie.Need-returns
+unfolding playedCall frameAnswer frameOutput frameRefusal wholeFrame
+returns c =
+    let b = c .before .before .before .before .before .before .before .before .before .before .before .before .before .before .before .before .before .before .before .before .before .before .before in
+    let a = b .args in
+    let x = c .before .before .before .before .before .before .before .before .before .before .before .before .before .before .before .before .before .before .before .before .state-in .ensures in
+    let y = c .before .before .before .before .before .before .before .before .before .before .before .before .before .before .before .before .before .control-in .ensures in
+    let e = c .before .before .before .before .before .before .before .before .before .before .before .before .before .before .before .lost-frame .ensures in
+    let d = frameAnswer (stateIn (a .words .now) (a .halves .now)) (wholeCall Lost (controlIn (a .frame .now) (a .coefs .now)) [] [] [] (a .output .now)) in
+    let r = e .0 ∙ λ i. frameAnswer (x i) (wholeCall Lost (y i) [] [] [] (a .output .now)) in
+    control-ended _ _ _ _ _ _ _ _ (λ i. r i .refusal) (λ i. r i .state) (λ i. r i .control)
+    (b .pre)
+    (kept w32 _ (c .code .ok) ∙ c .code .ensures)
+    (c .before .before .before .before .before .before .before .before .before .keep-state .ensures)
+    (c .before .before .before .before .before .keep-lags .ensures)
+    (c .before .before .keep-taps .ensures)
+    (e .1 ∙ (λ i. frameOutput (x i) (wholeCall Lost (y i) [] [] [] (a .output .now))) ∙ again (d .refusal) _ _)
+
+pub lost-spec : {M : Type 1} → statement M
+lost-spec =
+    tie.close
+    (tie.spec state-in-requires control-in-requires (λ c κs. tt) keep-state-requires keep-lags-requires keep-taps-requires (λ c κs. tt) (λ c. c .before .before .before .before .before .before .before .before .before .keep-state .kept .1 .1 .0) (λ c. c .before .before .before .before .before .before .before .before .before .keep-state .kept .1 .1 .1 .0) (λ c. c .before .before .before .before .before .keep-lags .kept .1 .1 .0) (λ c. c .before .before .keep-taps .kept .1 .1 .0) (λ c. c .before .before .before .before .before .before .before .before .before .before .before .before .before .before .before .lost-frame .kept .1 .1 .0) returns)
