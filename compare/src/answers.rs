@@ -18,35 +18,36 @@ const FILTERS: u64 = 200;
 /// Numbers after a line's first two: the program's row has 64.
 const PLACES: usize = 62;
 
-/// The calls in the order of the program's numbers for them.
-const CALLS: [What; 11] = [
-    What::SetUp,
-    What::Received,
-    What::Lost,
-    What::Core,
-    What::PlcReceived,
-    What::PlcLost,
-    What::Glue,
-    What::Noise,
-    What::Played,
-    What::Stability,
-    What::Filter,
-];
+/// The program's number for each call.
+fn number(what: What) -> usize {
+    match what {
+        What::SetUp => 0,
+        What::Received | What::Lost => 1,
+        What::Core => 2,
+        What::PlcReceived => 3,
+        What::PlcLost => 4,
+        What::Glue => 5,
+        What::Noise => 6,
+        What::Played => 7,
+        What::Stability => 8,
+        What::Filter => 9,
+        What::Sentence => unreachable!("crates/service has the sentences"),
+    }
+}
 
 /// A slice that the program lends parts of: its name, its number in a line, and whether a call is given its contents.
 type Kept<T> = (&'static str, usize, fn(&mut Call) -> &mut Vec<T>, bool);
 
 const LONG: [Kept<i32>; 3] =
-    [("words", 20, |c| &mut c.words, true), ("control", 22, |c| &mut c.control, true), ("result", 29, |c| &mut c.result, false)];
+    [("words", 20, |c| &mut c.words, true), ("frame", 22, |c| &mut c.frame, true), ("result", 28, |c| &mut c.result, false)];
 
-const SHORT: [Kept<i16>; 7] = [
+const SHORT: [Kept<i16>; 6] = [
     ("halves", 21, |c| &mut c.halves, true),
-    ("taps", 23, |c| &mut c.taps, true),
-    ("rows", 24, |c| &mut c.rows, true),
-    ("lines", 25, |c| &mut c.lines, true),
-    ("pulses", 26, |c| &mut c.pulses, true),
-    ("output", 27, |c| &mut c.output, false),
-    ("coefficients", 28, |c| &mut c.coefficients, true),
+    ("coefs", 23, |c| &mut c.coefs, true),
+    ("lines", 24, |c| &mut c.lines, true),
+    ("pulses", 25, |c| &mut c.pulses, true),
+    ("output", 26, |c| &mut c.output, false),
+    ("coefficients", 27, |c| &mut c.coefficients, true),
 ];
 
 struct List {
@@ -101,9 +102,8 @@ impl List {
         let mut kept = Draft::plain(What::Received, 16, 4).call();
         kept.words = vec![0; 704];
         kept.halves = vec![0; 544];
-        kept.control = vec![0; 16];
-        kept.taps = vec![0; 32];
-        kept.rows = vec![0; 40];
+        kept.frame = vec![0; 24];
+        kept.coefs = vec![0; 80];
         kept.lines = vec![0; 24];
         kept.pulses = vec![0; 400];
         kept.output = vec![0; 400];
@@ -127,16 +127,19 @@ impl List {
     /// Lines that make the kept numbers those of a call, one that makes it, and the Rust's answer.
     fn make(&mut self, mut call: Call) -> Result<i32, String> {
         let mut numbers = match call.what {
-            What::SetUp | What::Played => vec![call.rate as i64, call.subframes as i64, 0, 0],
-            What::Received | What::Core => [call.signal, call.offset, call.interpolation, call.seed].map(i64::from).to_vec(),
-            What::PlcReceived => [call.signal, call.offset, call.interpolation, 0].map(i64::from).to_vec(),
-            What::Lost | What::PlcLost => vec![0; 4],
-            What::Glue | What::Noise | What::Stability | What::Filter | What::Sentence => {
+            What::SetUp | What::Played => vec![call.rate as i64, call.subframes as i64],
+            What::Glue | What::Noise | What::Stability | What::Filter => {
                 call.length = call.length.min(u32::MAX as usize);
-                vec![call.length as u32 as i32 as i64, 0, 0, 0]
+                vec![call.length as u32 as i32 as i64, 0]
             }
+            _ => vec![0; 2],
         };
-        let mut lent = [0; 10];
+        if call.what == What::Lost {
+            // Its coefficients are not read: they may be those that are there.
+            let lent = call.coefs.len();
+            call.coefs.copy_from_slice(&self.kept.coefs[..lent]);
+        }
+        let mut lent = [0; 9];
         for kept in LONG {
             self.lend(&mut call, kept, &mut lent);
         }
@@ -147,8 +150,7 @@ impl List {
         while numbers.last() == Some(&0) {
             numbers.pop();
         }
-        let what = CALLS.iter().position(|what| *what == call.what).unwrap();
-        write!(self.stdin, "{what} {}", call.what.name()).unwrap();
+        write!(self.stdin, "{} {}", number(call.what), call.what.name()).unwrap();
         for number in numbers {
             write!(self.stdin, " {number}").unwrap();
         }
@@ -170,7 +172,7 @@ impl List {
     }
 
     /// A call's slice becomes the first part of a kept one, by lines for what differs.
-    fn lend<T: Copy + PartialEq + Into<i64>>(&mut self, call: &mut Call, (name, number, get, given): Kept<T>, lent: &mut [i64; 10]) {
+    fn lend<T: Copy + PartialEq + Into<i64>>(&mut self, call: &mut Call, (name, number, get, given): Kept<T>, lent: &mut [i64; 9]) {
         let (slice, kept) = (get(call), get(&mut self.kept));
         lent[number - 20] = slice.len() as i64;
         if given {
@@ -210,8 +212,8 @@ impl List {
         let long = |sum: i32, numbers: &[i32]| numbers.iter().fold(sum, |sum, number| mixed(sum, *number));
         let k = &self.kept;
         let state = short(long(0, &k.words), &k.halves);
-        let description = short(long(state, &k.control), &k.taps);
-        long(short(short(description, &k.output), &k.coefficients), &k.result)
+        let frame = short(long(state, &k.frame), &k.coefs);
+        long(short(short(frame, &k.output), &k.coefficients), &k.result)
     }
 
     /// A call on the state that the last one left.
@@ -298,7 +300,7 @@ impl List {
     /// Each sized slice of each call, one place too short.
     fn short(&mut self) -> Result<(), String> {
         self.title("slices that are too short");
-        for what in CALLS {
+        for (what, ..) in What::ALL {
             let call = Draft::plain(what, 8, 2).call();
             for (_, get, size) in call::LONG {
                 self.cut(&call, get, size)?;

@@ -3,7 +3,8 @@
 use crate::call::{self, Call, What};
 use crate::draw::SHAPES;
 use crate::ffi;
-use crate::reference::{HALVES, WORDS, read_control, read_state, write_state};
+use crate::post::ffi::frame::LAGS;
+use crate::reference::{HALVES, WORDS, read_frame, read_state, write_state};
 use crate::streams;
 use given::range_coder::RangeCoder;
 use given::silk::cng::silk_cng;
@@ -33,15 +34,9 @@ struct Rust<'a> {
 
 impl Rust<'_> {
     fn of(call: &Call) -> Rust<'_> {
-        let dec = read_state(&call.words, &call.halves);
-        let mut indices = dec.indices;
-        (indices.signal_type, indices.quant_offset_type) = (call.signal, call.offset);
-        (indices.nlsf_interp_coef_q2, indices.seed) = (call.interpolation, call.seed);
-        let mut lines = [0; 16];
-        lines[..call.lines.len()].copy_from_slice(&call.lines);
-        let control = read_control(&call.control, &call.taps, &call.rows);
-        let frame = RangeCoder { indices, lines, pulses: &call.pulses, control };
-        Rust { dec: SilkDecoderState { indices, ..dec }, frame, output: call.output.clone(), length: call.length }
+        let frame = read_frame(&call.frame, &call.coefs).coder(&call.pulses);
+        let dec = SilkDecoderState { indices: frame.indices, ..read_state(&call.words, &call.halves) };
+        Rust { dec, frame, output: call.output.clone(), length: call.length }
     }
 }
 
@@ -129,7 +124,7 @@ fn calls(folder: &Path, (rate, subframes): (i32, i32)) -> Result<Vec<Call>, Stri
 fn noise_after(mut call: Call) -> Call {
     call::reference(&mut call);
     let mut dec = read_state(&call.words, &call.halves);
-    dec.lag_prev = call.control[0];
+    dec.lag_prev = call.frame[LAGS];
     write_state(&mut dec, &mut call.words, &mut call.halves);
     Call { what: What::Noise, ..call }
 }

@@ -1,6 +1,6 @@
 //! One call of a function: its numbers and the slices that it is lent.
 
-use crate::reference::{self, control_fields, half_fields, word_fields};
+use crate::reference::{self, coef_fields, frame_fields, half_fields, word_fields};
 use given::silk::decoder_structs::{SilkDecoderControl, SilkDecoderState};
 use std::fmt::Write;
 
@@ -21,7 +21,7 @@ pub enum What {
 }
 
 impl What {
-    /// Each function, its name without `post_`, and whether the library has it.
+    /// Each call, its function's name without `post_`, or for `post_frame` its kind, and whether the library has the function.
     pub const ALL: [(What, &'static str, bool); 12] = [
         (What::Stability, "stability", cfg!(has_stability)),
         (What::Sentence, "sentence", cfg!(has_sentence)),
@@ -33,8 +33,8 @@ impl What {
         (What::Noise, "noise", cfg!(has_noise)),
         (What::SetUp, "set_up", cfg!(has_set_up)),
         (What::Played, "played", cfg!(has_played)),
-        (What::Received, "received", cfg!(has_received)),
-        (What::Lost, "lost", cfg!(has_lost)),
+        (What::Received, "received", cfg!(has_frame)),
+        (What::Lost, "lost", cfg!(has_frame)),
     ];
 
     pub fn name(self) -> &'static str {
@@ -56,6 +56,8 @@ pub struct Draft {
     pub dec: SilkDecoderState,
     pub control: SilkDecoderControl,
     pub lines: [i16; 16],
+    /// Numbers that stand in `frame` in place of those above: the place and the number.
+    pub numbers: Vec<(usize, i32)>,
     pub pulses: Vec<i16>,
     /// The output, or the buffer of gluing or noise.
     pub output: Vec<i16>,
@@ -77,6 +79,7 @@ impl Draft {
             dec: reference::set_up(rate, subframes),
             control,
             lines: [0; 16],
+            numbers: vec![],
             pulses: vec![0; frame],
             output: vec![0; frame],
             coefficients: vec![0; 16],
@@ -89,24 +92,19 @@ impl Draft {
         use What::*;
         let what = self.what;
         let takes = |all: &[What]| all.contains(&what);
-        let (state, control) =
-            (!takes(&[Played, Stability, Sentence, Filter]), takes(&[Received, Lost, Core, PlcReceived, PlcLost, Noise]));
-        let indices = self.dec.indices;
+        let state = !takes(&[Played, Stability, Sentence, Filter]);
+        let frame = takes(&[Received, Lost, Core, PlcReceived, PlcLost, Noise]);
+        let coefs = takes(&[Received, Lost, Core, PlcReceived]);
         let mut call = Call {
             what,
             rate: self.rate,
             subframes: self.subframes,
-            signal: indices.signal_type,
-            offset: indices.quant_offset_type,
-            interpolation: indices.nlsf_interp_coef_q2,
-            seed: indices.seed,
             length: self.length,
             words: vec![0; if state { reference::WORDS } else { 0 }],
             halves: vec![0; if state { reference::HALVES } else { 0 }],
-            control: vec![0; if control { reference::CONTROL } else { 0 }],
-            taps: vec![0; if control { reference::TAPS } else { 0 }],
-            rows: if takes(&[Received, Core, PlcReceived]) { self.control.pred_coef_q12.concat() } else { vec![] },
-            lines: if takes(&[Received, Filter]) { self.lines.to_vec() } else { vec![] },
+            frame: vec![0; if frame { reference::FRAME } else { 0 }],
+            coefs: vec![0; if coefs { reference::COEFS } else { 0 }],
+            lines: if takes(&[Filter]) { self.lines.to_vec() } else { vec![] },
             pulses: if takes(&[Received, Core]) { self.pulses } else { vec![] },
             output: if takes(&[Received, Lost, Core, PlcLost, Glue, Noise, Played]) { self.output } else { vec![] },
             coefficients: if takes(&[Stability, Sentence, Filter]) { self.coefficients } else { vec![] },
@@ -116,8 +114,17 @@ impl Draft {
         if state {
             reference::write_state(&mut self.dec, &mut call.words, &mut call.halves);
         }
-        if control {
-            reference::write_control(&mut self.control, &mut call.control, &mut call.taps);
+        if frame {
+            let small = self.dec.indices;
+            let mut numbers = reference::Frame {
+                received: !takes(&[Lost, PlcLost]) as i32,
+                shape: [self.dec.fs_khz, self.dec.nb_subfr],
+                small: [small.signal_type, small.quant_offset_type, small.nlsf_interp_coef_q2, small.seed].map(i32::from),
+                control: self.control,
+                lines: self.lines,
+            };
+            reference::write_frame(&mut numbers, &mut call.frame, &mut call.coefs);
+            self.numbers.iter().for_each(|(place, number)| call.frame[*place] = *number);
         }
         call
     }
@@ -128,16 +135,11 @@ pub struct Call {
     pub what: What,
     pub rate: i32,
     pub subframes: i32,
-    pub signal: i8,
-    pub offset: i8,
-    pub interpolation: i8,
-    pub seed: i8,
     pub length: usize,
     pub words: Vec<i32>,
     pub halves: Vec<i16>,
-    pub control: Vec<i32>,
-    pub taps: Vec<i16>,
-    pub rows: Vec<i16>,
+    pub frame: Vec<i32>,
+    pub coefs: Vec<i16>,
     pub lines: Vec<i16>,
     pub pulses: Vec<i16>,
     pub output: Vec<i16>,
@@ -151,16 +153,15 @@ pub type Slice<T> = (&'static str, fn(&mut Call) -> &mut Vec<T>, usize);
 
 pub const LONG: [Slice<i32>; 3] = [
     ("words", |c| &mut c.words, reference::WORDS),
-    ("control", |c| &mut c.control, reference::CONTROL),
+    ("frame", |c| &mut c.frame, reference::FRAME),
     ("result", |c| &mut c.result, reference::ANSWER),
 ];
 
 pub const BYTES: [Slice<u8>; 1] = [("text", |c| &mut c.text, reference::TEXT)];
 
-pub const SHORT: [Slice<i16>; 7] = [
+pub const SHORT: [Slice<i16>; 6] = [
     ("halves", |c| &mut c.halves, reference::HALVES),
-    ("taps", |c| &mut c.taps, reference::TAPS),
-    ("rows", |c| &mut c.rows, reference::ROWS),
+    ("coefs", |c| &mut c.coefs, reference::COEFS),
     ("lines", |c| &mut c.lines, 0),
     ("pulses", |c| &mut c.pulses, 0),
     ("output", |c| &mut c.output, 0),
@@ -170,18 +171,15 @@ pub const SHORT: [Slice<i16>; 7] = [
 /// Makes a call of the reference, in place.
 pub fn reference(c: &mut Call) -> i32 {
     use reference::*;
-    let (words, halves, control, taps, output) = (&mut c.words, &mut c.halves, &mut c.control, &mut c.taps, &mut c.output);
+    let (words, halves, frame, coefs, output) = (&mut c.words, &mut c.halves, &mut c.frame, &mut c.coefs, &mut c.output);
     match c.what {
         What::SetUp => post_set_up(c.rate, c.subframes, words, halves),
-        What::Received => {
-            post_received(words, halves, c.signal, c.offset, c.interpolation, c.seed, control, taps, &c.rows, &c.lines, &c.pulses, output)
-        }
-        What::Lost => post_lost(words, halves, control, taps, output),
-        What::Core => post_core(words, halves, c.signal, c.offset, c.interpolation, c.seed, control, taps, &c.rows, &c.pulses, output),
-        What::PlcReceived => post_plc_received(words, halves, c.signal, c.offset, c.interpolation, control, taps, &c.rows),
-        What::PlcLost => post_plc_lost(words, halves, control, taps, output),
+        What::Received | What::Lost => post_frame(words, halves, frame, coefs, &c.pulses, output),
+        What::Core => post_core(words, halves, frame, coefs, &c.pulses, output),
+        What::PlcReceived => post_plc_received(words, halves, frame, coefs),
+        What::PlcLost => post_plc_lost(words, halves, frame, output),
         What::Glue => post_glue(words, halves, output, c.length),
-        What::Noise => post_noise(words, halves, control, taps, output, c.length),
+        What::Noise => post_noise(words, halves, frame, output, c.length),
         What::Played => post_played(c.rate, c.subframes, output),
         What::Stability => post_stability(&c.coefficients, c.length, &mut c.result),
         What::Sentence => post_sentence(&c.coefficients, c.length, &mut c.text),
@@ -204,7 +202,8 @@ pub fn place(slice: &str, index: usize) -> String {
     let name = match slice {
         "words" => named(word_fields(&mut Default::default()), index),
         "halves" => named(half_fields(&mut Default::default()), index),
-        "control" => named(control_fields(&mut Default::default()), index),
+        "frame" => named(frame_fields(&mut Default::default()), index),
+        "coefs" => named(coef_fields(&mut Default::default()), index),
         _ => None,
     };
     name.map_or(format!("{slice}[{index}]"), |name| format!("{slice}: {name}"))
@@ -214,17 +213,7 @@ pub fn place(slice: &str, index: usize) -> String {
 pub fn written(call: &Call, plain: &Call) -> String {
     let (mut call, mut plain) = (call.clone(), plain.clone());
     let mut text = format!("  {}, else as plain at {} kHz with {} subframes:\n", call.what.name(), plain.rate, plain.subframes);
-    let numbers = |c: &Call| {
-        [
-            ("rate", c.rate as i64),
-            ("subframes", c.subframes as i64),
-            ("signal", c.signal as i64),
-            ("offset", c.offset as i64),
-            ("interpolation", c.interpolation as i64),
-            ("seed", c.seed as i64),
-            ("length", c.length as i64),
-        ]
-    };
+    let numbers = |c: &Call| [("rate", c.rate as i64), ("subframes", c.subframes as i64), ("length", c.length as i64)];
     for ((name, value), (_, usual)) in numbers(&call).into_iter().zip(numbers(&plain)) {
         if value != usual {
             writeln!(text, "    {name} = {value}").unwrap();

@@ -214,7 +214,9 @@ pub fn examples(script: &OsStr, streams: &Path) -> bool {
 
 /// A fault for a test: shows only where the input has a large third number.
 fn harm(before: &Call, after: &mut Call) {
-    let third = [&before.halves, &before.lines, &before.coefficients, &before.output].iter().find_map(|numbers| numbers.get(2).copied());
+    let third = [&before.halves, &before.coefs, &before.lines, &before.coefficients, &before.output]
+        .iter()
+        .find_map(|numbers| numbers.get(2).copied());
     if third.is_some_and(|number| number > 1000) {
         for (_, get, _) in SHORT {
             if let Some(number) = get(after).get_mut(3) {

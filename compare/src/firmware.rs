@@ -1,8 +1,8 @@
 //! The Rust's `silk_decode_frame` with the library in place of its stages, as a firmware has it, beside the Rust's own.
 
 use crate::call::{Call, What, place};
-use crate::post::{Description, Params, Post, Refusal, ffi};
-use crate::reference::{self, read_control, read_into, write_state};
+use crate::post::{Description, Params, Post, Refusal, Shape, ffi};
+use crate::reference::{self, read_frame, read_into, write_state};
 use crate::streams::Stream;
 use given::range_coder::RangeCoder;
 use given::silk::decode_frame::{self, FLAG_DECODE_LBRR, FLAG_DECODE_NORMAL, FLAG_PACKET_LOST};
@@ -52,6 +52,7 @@ pub fn silk_decode_frame(
     ps_dec: &mut SilkDecoderState, ps_range_dec: &mut RangeCoder, p_out: &mut [i16], p_n: &mut i32, lost_flag: i32, cond_coding: i32,
 ) -> i32 {
     let mut post = post_of(ps_dec);
+    let shape = Shape { rate: ps_dec.fs_khz, subframes: ps_dec.nb_subfr };
     let lbrr = lost_flag == FLAG_DECODE_LBRR && ps_dec.lbrr_flags[ps_dec.n_frames_decoded as usize] == 1;
     let played = if lost_flag == FLAG_DECODE_NORMAL || lbrr {
         let mut pulses = [0; MAX_FRAME_LENGTH];
@@ -60,9 +61,9 @@ pub fn silk_decode_frame(
         let (signal, offset) = (ps_dec.indices.signal_type as i32, ps_dec.indices.quant_offset_type as i32);
         silk_decode_pulses(ps_range_dec, &mut pulses, signal, offset, ps_dec.frame_length);
         silk_decode_parameters(ps_dec, &mut ps_dec_ctrl, cond_coding);
-        post.received(params_of(&ps_dec.indices), &mut description_of(ps_dec, &ps_dec_ctrl), &pulses, p_out)
+        post.received(shape, params_of(&ps_dec.indices), &mut description_of(ps_dec, &ps_dec_ctrl), &pulses, p_out)
     } else {
-        post.lost(&mut Description::default(), p_out)
+        post.lost(shape, &mut Description::default(), p_out)
     };
     keep(ps_dec, &post);
     *p_n = ps_dec.frame_length;
@@ -81,13 +82,7 @@ fn silk_decode_parameters(_: &mut SilkDecoderState, ps_dec_ctrl: &mut SilkDecode
 
 /// A record as the bitstream would give it.
 fn coder(record: &Call) -> RangeCoder<'_> {
-    let mut indices = SideInfoIndices::default();
-    (indices.signal_type, indices.quant_offset_type) = (record.signal, record.offset);
-    (indices.nlsf_interp_coef_q2, indices.seed) = (record.interpolation, record.seed);
-    let mut lines = [0; reference::LINES];
-    lines[..record.lines.len()].copy_from_slice(&record.lines);
-    let control = read_control(&record.control, &record.taps, &record.rows);
-    RangeCoder { indices, lines, pulses: &record.pulses, control }
+    read_frame(&record.frame, &record.coefs).coder(&record.pulses)
 }
 
 /// Plays a stream in both loops; the first difference of a sample or of the state after a frame, if any.

@@ -12,46 +12,30 @@ unsafe extern "C" fn post_set_up(rate: i32, subframes: i32, w: Longs, wn: usize,
     unsafe { reference::post_set_up(rate, subframes, part_mut(w, wn), part_mut(h, hn)) }
 }
 
-#[cfg(not(has_received))]
+#[cfg(not(has_frame))]
 #[unsafe(no_mangle)]
-unsafe extern "C" fn post_received(w: Longs, wn: usize, h: Shorts, hn: usize, signal: i8, offset: i8, interpolation: i8, seed: i8,
-    c: Longs, cn: usize, t: Shorts, tn: usize, r: Shorts, rn: usize, l: Shorts, ln: usize, p: Shorts, pn: usize, o: Shorts, on: usize) -> i32 {
-    unsafe {
-        reference::post_received(part_mut(w, wn), part_mut(h, hn), signal, offset, interpolation, seed,
-            part_mut(c, cn), part_mut(t, tn), part(r, rn), part(l, ln), part(p, pn), part_mut(o, on))
-    }
-}
-
-#[cfg(not(has_lost))]
-#[unsafe(no_mangle)]
-unsafe extern "C" fn post_lost(w: Longs, wn: usize, h: Shorts, hn: usize, c: Longs, cn: usize, t: Shorts, tn: usize, o: Shorts, on: usize) -> i32 {
-    unsafe { reference::post_lost(part_mut(w, wn), part_mut(h, hn), part_mut(c, cn), part_mut(t, tn), part_mut(o, on)) }
+unsafe extern "C" fn post_frame(w: Longs, wn: usize, h: Shorts, hn: usize, f: Longs, fn_: usize, c: Shorts, cn: usize,
+    p: Shorts, pn: usize, o: Shorts, on: usize) -> i32 {
+    unsafe { reference::post_frame(part_mut(w, wn), part_mut(h, hn), part_mut(f, fn_), part_mut(c, cn), part(p, pn), part_mut(o, on)) }
 }
 
 #[cfg(not(has_core))]
 #[unsafe(no_mangle)]
-unsafe extern "C" fn post_core(w: Longs, wn: usize, h: Shorts, hn: usize, signal: i8, offset: i8, interpolation: i8, seed: i8,
-    c: Longs, cn: usize, t: Shorts, tn: usize, r: Shorts, rn: usize, p: Shorts, pn: usize, o: Shorts, on: usize) -> i32 {
-    unsafe {
-        reference::post_core(part_mut(w, wn), part_mut(h, hn), signal, offset, interpolation, seed,
-            part_mut(c, cn), part_mut(t, tn), part(r, rn), part(p, pn), part_mut(o, on))
-    }
+unsafe extern "C" fn post_core(w: Longs, wn: usize, h: Shorts, hn: usize, f: Longs, fn_: usize, c: Shorts, cn: usize,
+    p: Shorts, pn: usize, o: Shorts, on: usize) -> i32 {
+    unsafe { reference::post_core(part_mut(w, wn), part_mut(h, hn), part_mut(f, fn_), part_mut(c, cn), part(p, pn), part_mut(o, on)) }
 }
 
 #[cfg(not(has_plc_received))]
 #[unsafe(no_mangle)]
-unsafe extern "C" fn post_plc_received(w: Longs, wn: usize, h: Shorts, hn: usize, signal: i8, offset: i8, interpolation: i8,
-    c: Longs, cn: usize, t: Shorts, tn: usize, r: Shorts, rn: usize) -> i32 {
-    unsafe {
-        reference::post_plc_received(part_mut(w, wn), part_mut(h, hn), signal, offset, interpolation,
-            part_mut(c, cn), part_mut(t, tn), part(r, rn))
-    }
+unsafe extern "C" fn post_plc_received(w: Longs, wn: usize, h: Shorts, hn: usize, f: Longs, fn_: usize, c: Shorts, cn: usize) -> i32 {
+    unsafe { reference::post_plc_received(part_mut(w, wn), part_mut(h, hn), part(f, fn_), part(c, cn)) }
 }
 
 #[cfg(not(has_plc_lost))]
 #[unsafe(no_mangle)]
-unsafe extern "C" fn post_plc_lost(w: Longs, wn: usize, h: Shorts, hn: usize, c: Longs, cn: usize, t: Shorts, tn: usize, o: Shorts, on: usize) -> i32 {
-    unsafe { reference::post_plc_lost(part_mut(w, wn), part_mut(h, hn), part_mut(c, cn), part_mut(t, tn), part_mut(o, on)) }
+unsafe extern "C" fn post_plc_lost(w: Longs, wn: usize, h: Shorts, hn: usize, f: Longs, fn_: usize, o: Shorts, on: usize) -> i32 {
+    unsafe { reference::post_plc_lost(part_mut(w, wn), part_mut(h, hn), part_mut(f, fn_), part_mut(o, on)) }
 }
 
 #[cfg(not(has_glue))]
@@ -62,9 +46,8 @@ unsafe extern "C" fn post_glue(w: Longs, wn: usize, h: Shorts, hn: usize, b: Sho
 
 #[cfg(not(has_noise))]
 #[unsafe(no_mangle)]
-unsafe extern "C" fn post_noise(w: Longs, wn: usize, h: Shorts, hn: usize, c: Longs, cn: usize, t: Shorts, tn: usize,
-    b: Shorts, bn: usize, length: usize) -> i32 {
-    unsafe { reference::post_noise(part_mut(w, wn), part_mut(h, hn), part(c, cn), part(t, tn), part_mut(b, bn), length) }
+unsafe extern "C" fn post_noise(w: Longs, wn: usize, h: Shorts, hn: usize, f: Longs, fn_: usize, b: Shorts, bn: usize, length: usize) -> i32 {
+    unsafe { reference::post_noise(part_mut(w, wn), part_mut(h, hn), part(f, fn_), part_mut(b, bn), length) }
 }
 
 #[cfg(not(has_played))]

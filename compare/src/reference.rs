@@ -1,7 +1,7 @@
 //! Every function of the library as the given Rust would have it: document 01's rows, then the Rust's own stage or frame.
 
-use crate::post::Stability;
-pub use crate::post::ffi::{ANSWER, CONTROL, HALVES, LINES, ROWS, TAPS, TEXT, WORDS};
+use crate::post::{Stability, ffi};
+pub use crate::post::ffi::{ANSWER, COEFS, FRAME, HALVES, TEXT, WORDS};
 use given::range_coder::RangeCoder;
 use given::reason;
 use given::silk::cng::silk_cng;
@@ -22,7 +22,7 @@ pub const STOPPED: i32 = i32::MIN;
 /// What was said at the last stop.
 pub static STOP: Mutex<String> = Mutex::new(String::new());
 
-// The library's form of the state and of a description.
+// The library's form of the state and of a frame.
 
 /// The state's i32 fields in the library's order.
 pub fn word_fields(dec: &mut SilkDecoderState) -> [(&'static str, &mut [i32]); 27] {
@@ -72,9 +72,44 @@ pub fn half_fields(dec: &mut SilkDecoderState) -> [(&'static str, &mut [i16]); 7
     ]
 }
 
-/// A description's i32 fields in the library's order.
-pub fn control_fields(control: &mut SilkDecoderControl) -> [(&'static str, &mut [i32]); 3] {
-    [("pitch_l", &mut control.pitch_l), ("gains_q16", &mut control.gains_q16), ("ltp_scale_q14", one(&mut control.ltp_scale_q14))]
+/// A frame in numbers.
+#[derive(Clone, Default)]
+pub struct Frame {
+    pub received: i32,
+    /// Rate and subframes.
+    pub shape: [i32; 2],
+    /// Signal type, offset type, interpolation and seed.
+    pub small: [i32; 4],
+    pub control: SilkDecoderControl,
+    pub lines: [i16; 16],
+}
+
+/// A frame's i32 numbers in the library's order.
+pub fn frame_fields(frame: &mut Frame) -> [(&'static str, &mut [i32]); 10] {
+    let ([rate, subframes], [signal, offset, interpolation, seed]) = (&mut frame.shape, &mut frame.small);
+    let control = &mut frame.control;
+    [
+        ("received", one(&mut frame.received)),
+        ("rate", one(rate)),
+        ("subframes", one(subframes)),
+        ("signal_type", one(signal)),
+        ("quant_offset_type", one(offset)),
+        ("nlsf_interp_coef_q2", one(interpolation)),
+        ("seed", one(seed)),
+        ("pitch_l", &mut control.pitch_l),
+        ("gains_q16", &mut control.gains_q16),
+        ("ltp_scale_q14", one(&mut control.ltp_scale_q14)),
+    ]
+}
+
+/// A frame's i16 numbers in the library's order.
+pub fn coef_fields(frame: &mut Frame) -> [(&'static str, &mut [i16]); 3] {
+    let control = &mut frame.control;
+    [
+        ("ltp_coef_q14", &mut control.ltp_coef_q14),
+        ("pred_coef_q12", control.pred_coef_q12.as_flattened_mut()),
+        ("nlsf_q15", &mut frame.lines),
+    ]
 }
 
 fn read<T: Copy, const N: usize>(fields: [(&str, &mut [T]); N], mut from: &[T]) {
@@ -109,23 +144,46 @@ pub fn write_state(dec: &mut SilkDecoderState, words: &mut [i32], halves: &mut [
     write(half_fields(dec), halves);
 }
 
-pub fn read_control(control: &[i32], taps: &[i16], rows: &[i16]) -> SilkDecoderControl {
-    let mut read_in = SilkDecoderControl::default();
-    read(control_fields(&mut read_in), control);
-    read_in.ltp_coef_q14.copy_from_slice(&taps[..TAPS]);
-    for (row, from) in read_in.pred_coef_q12.iter_mut().zip(rows.chunks(LINES)) {
-        row.copy_from_slice(from);
+/// The frame that numbers hold; without coefficients they are 0.
+pub fn read_frame(frame: &[i32], coefs: &[i16]) -> Frame {
+    let mut read_in = Frame::default();
+    read(frame_fields(&mut read_in), frame);
+    if !coefs.is_empty() {
+        read(coef_fields(&mut read_in), coefs);
     }
     read_in
 }
 
-pub fn write_control(from: &mut SilkDecoderControl, control: &mut [i32], taps: &mut [i16]) {
-    write(control_fields(from), control);
-    taps[..TAPS].copy_from_slice(&from.ltp_coef_q14);
+pub fn write_frame(from: &mut Frame, frame: &mut [i32], coefs: &mut [i16]) {
+    write(frame_fields(from), frame);
+    if !coefs.is_empty() {
+        write(coef_fields(from), coefs);
+    }
 }
 
-fn indices(signal: i8, offset: i8, interpolation: i8, seed: i8) -> SideInfoIndices {
-    SideInfoIndices { signal_type: signal, quant_offset_type: offset, nlsf_interp_coef_q2: interpolation, seed, ..Default::default() }
+impl Frame {
+    /// The small numbers as the Rust has them: one outside 8 bits is none of the permitted ones; of the seed the low 8 bits count.
+    pub fn indices(&self) -> SideInfoIndices {
+        let [signal_type, quant_offset_type, nlsf_interp_coef_q2] = [0, 1, 2].map(|at| i8::try_from(self.small[at]).unwrap_or(-1));
+        SideInfoIndices { signal_type, quant_offset_type, nlsf_interp_coef_q2, seed: self.small[3] as i8, ..Default::default() }
+    }
+
+    /// The frame as the Rust's reading of the bitstream would give it.
+    pub fn coder<'a>(&self, pulses: &'a [i16]) -> RangeCoder<'a> {
+        RangeCoder { indices: self.indices(), lines: self.lines, pulses, control: self.control.clone() }
+    }
+}
+
+/// Writes a description back: lags, and taps where they are lent. The Rust may have changed nothing else of it.
+fn keep(before: &SilkDecoderControl, after: &SilkDecoderControl, frame: &mut [i32], coefs: &mut [i16]) {
+    let rest = |control: &SilkDecoderControl| (control.gains_q16, control.ltp_scale_q14, control.pred_coef_q12);
+    assert_eq!(rest(before), rest(after), "the Rust changes a gain, the scale or a coefficient row");
+    frame[ffi::frame::LAGS..ffi::frame::GAINS].copy_from_slice(&after.pitch_l);
+    if coefs.is_empty() {
+        assert_eq!(before.ltp_coef_q14, after.ltp_coef_q14, "the Rust changes taps that are not lent");
+    } else {
+        coefs[..ffi::coefs::ROWS].copy_from_slice(&after.ltp_coef_q14);
+    }
 }
 
 // Document 01, "Why a frame is turned down": the first row that applies.
@@ -266,102 +324,74 @@ pub fn post_set_up(rate: i32, subframes: i32, words: &mut [i32], halves: &mut [i
     })
 }
 
-#[allow(clippy::too_many_arguments)]
-pub fn post_received(
-    words: &mut [i32], halves: &mut [i16], signal: i8, offset: i8, interpolation: i8, seed: i8, control: &mut [i32], taps: &mut [i16],
-    rows: &[i16], lines: &[i16], pulses: &[i16], output: &mut [i16],
-) -> i32 {
+pub fn post_frame(words: &mut [i32], halves: &mut [i16], frame: &mut [i32], coefs: &mut [i16], pulses: &[i16], output: &mut [i16]) -> i32 {
     answer(|| {
-        judge_sizes(&[
-            (words.len(), WORDS),
-            (halves.len(), HALVES),
-            (control.len(), CONTROL),
-            (taps.len(), TAPS),
-            (rows.len(), ROWS),
-            (lines.len(), LINES),
-        ])?;
+        judge_sizes(&[(words.len(), WORDS), (halves.len(), HALVES), (frame.len(), FRAME), (coefs.len(), COEFS)])?;
         let mut dec = read_state(words, halves);
-        dec.indices = indices(signal, offset, interpolation, seed);
-        let mut frame = RangeCoder {
-            indices: dec.indices,
-            lines: lines[..LINES].try_into().unwrap(),
-            pulses,
-            control: read_control(control, taps, rows),
+        let brought = read_frame(frame, coefs);
+        let mut coder = brought.coder(pulses);
+        let flag = if brought.received == 0 {
+            judge_lost(&dec, output)?;
+            FLAG_PACKET_LOST
+        } else {
+            dec.indices = coder.indices;
+            judge_state(&dec)?;
+            judge_description(&dec, &brought.control)?;
+            unless(9, none_negative(&brought.lines[..dec.lpc_order as usize]))?;
+            judge_room(10, &dec, pulses)?;
+            judge_room(11, &dec, output)?;
+            FLAG_DECODE_NORMAL
         };
-        judge_state(&dec)?;
-        judge_description(&dec, &frame.control)?;
-        unless(9, none_negative(&lines[..dec.lpc_order as usize]))?;
-        judge_room(10, &dec, pulses)?;
-        judge_room(11, &dec, output)?;
-        run(|| silk_decode_frame(&mut dec, &mut frame, output, &mut 0, FLAG_DECODE_NORMAL, 0))?;
+        run(|| silk_decode_frame(&mut dec, &mut coder, output, &mut 0, flag, 0))?;
         write_state(&mut dec, words, halves);
-        write_control(&mut frame.control, control, taps);
+        keep(&brought.control, &coder.control, frame, coefs);
         Ok(())
     })
 }
 
-pub fn post_lost(words: &mut [i32], halves: &mut [i16], control: &mut [i32], taps: &mut [i16], output: &mut [i16]) -> i32 {
+pub fn post_core(words: &mut [i32], halves: &mut [i16], frame: &mut [i32], coefs: &mut [i16], pulses: &[i16], output: &mut [i16]) -> i32 {
     answer(|| {
-        judge_sizes(&[(words.len(), WORDS), (halves.len(), HALVES), (control.len(), CONTROL), (taps.len(), TAPS)])?;
+        judge_sizes(&[(words.len(), WORDS), (halves.len(), HALVES), (frame.len(), FRAME), (coefs.len(), COEFS)])?;
         let mut dec = read_state(words, halves);
-        let mut frame =
-            RangeCoder { indices: SideInfoIndices::default(), lines: [0; LINES], pulses: &[], control: read_control(control, taps, &[]) };
-        judge_lost(&dec, output)?;
-        run(|| silk_decode_frame(&mut dec, &mut frame, output, &mut 0, FLAG_PACKET_LOST, 0))?;
-        write_state(&mut dec, words, halves);
-        write_control(&mut frame.control, control, taps);
-        Ok(())
-    })
-}
-
-#[allow(clippy::too_many_arguments)]
-pub fn post_core(
-    words: &mut [i32], halves: &mut [i16], signal: i8, offset: i8, interpolation: i8, seed: i8, control: &mut [i32], taps: &mut [i16],
-    rows: &[i16], pulses: &[i16], output: &mut [i16],
-) -> i32 {
-    answer(|| {
-        judge_sizes(&[(words.len(), WORDS), (halves.len(), HALVES), (control.len(), CONTROL), (taps.len(), TAPS), (rows.len(), ROWS)])?;
-        let mut dec = read_state(words, halves);
-        dec.indices = indices(signal, offset, interpolation, seed);
-        let mut description = read_control(control, taps, rows);
+        let brought = read_frame(frame, coefs);
+        dec.indices = brought.indices();
+        let mut description = brought.control.clone();
         judge_state(&dec)?;
         judge_description(&dec, &description)?;
         judge_room(10, &dec, pulses)?;
         judge_room(11, &dec, output)?;
         run(|| silk_decode_core(&mut dec, &mut description, output, pulses))?;
         write_state(&mut dec, words, halves);
-        write_control(&mut description, control, taps);
+        keep(&brought.control, &description, frame, coefs);
         Ok(())
     })
 }
 
-#[allow(clippy::too_many_arguments)]
-pub fn post_plc_received(
-    words: &mut [i32], halves: &mut [i16], signal: i8, offset: i8, interpolation: i8, control: &mut [i32], taps: &mut [i16], rows: &[i16],
-) -> i32 {
+pub fn post_plc_received(words: &mut [i32], halves: &mut [i16], frame: &[i32], coefs: &[i16]) -> i32 {
     answer(|| {
-        judge_sizes(&[(words.len(), WORDS), (halves.len(), HALVES), (control.len(), CONTROL), (taps.len(), TAPS), (rows.len(), ROWS)])?;
+        judge_sizes(&[(words.len(), WORDS), (halves.len(), HALVES), (frame.len(), FRAME), (coefs.len(), COEFS)])?;
         let mut dec = read_state(words, halves);
-        dec.indices = indices(signal, offset, interpolation, 0);
-        let mut description = read_control(control, taps, rows);
+        let brought = read_frame(frame, coefs);
+        dec.indices = brought.indices();
+        let mut description = brought.control;
         judge_state(&dec)?;
         judge_description(&dec, &description)?;
         run(|| silk_plc(&mut dec, &mut description, &mut [], 0))?;
         write_state(&mut dec, words, halves);
-        write_control(&mut description, control, taps);
         Ok(())
     })
 }
 
-pub fn post_plc_lost(words: &mut [i32], halves: &mut [i16], control: &mut [i32], taps: &mut [i16], output: &mut [i16]) -> i32 {
+pub fn post_plc_lost(words: &mut [i32], halves: &mut [i16], frame: &mut [i32], output: &mut [i16]) -> i32 {
     answer(|| {
-        judge_sizes(&[(words.len(), WORDS), (halves.len(), HALVES), (control.len(), CONTROL), (taps.len(), TAPS)])?;
+        judge_sizes(&[(words.len(), WORDS), (halves.len(), HALVES), (frame.len(), FRAME)])?;
         let mut dec = read_state(words, halves);
-        let mut description = read_control(control, taps, &[]);
+        let before = read_frame(frame, &[]).control;
+        let mut description = before.clone();
         judge_lost(&dec, output)?;
         run(|| silk_plc(&mut dec, &mut description, output, 1))?;
         write_state(&mut dec, words, halves);
-        write_control(&mut description, control, taps);
+        keep(&before, &description, frame, &mut []);
         Ok(())
     })
 }
@@ -378,11 +408,11 @@ pub fn post_glue(words: &mut [i32], halves: &mut [i16], buffer: &mut [i16], leng
     })
 }
 
-pub fn post_noise(words: &mut [i32], halves: &mut [i16], control: &[i32], taps: &[i16], buffer: &mut [i16], length: usize) -> i32 {
+pub fn post_noise(words: &mut [i32], halves: &mut [i16], frame: &[i32], buffer: &mut [i16], length: usize) -> i32 {
     answer(|| {
-        judge_sizes(&[(words.len(), WORDS), (halves.len(), HALVES), (control.len(), CONTROL), (taps.len(), TAPS)])?;
+        judge_sizes(&[(words.len(), WORDS), (halves.len(), HALVES), (frame.len(), FRAME)])?;
         let mut dec = read_state(words, halves);
-        let description = read_control(control, taps, &[]);
+        let description = read_frame(frame, &[]).control;
         judge_state(&dec)?;
         if dec.loss_cnt == 0 {
             judge_gains(&dec, &description)?;

@@ -2,6 +2,7 @@
 
 use crate::call::{BYTES, Call, Draft, LONG, SHORT, What};
 use crate::draw::{BETWEEN_10, BETWEEN_16};
+use crate::post::ffi::frame::{GAINS, INTERPOLATION, LAGS, OFFSET, RATE, RECEIVED, SEED, SIGNAL, SUBFRAMES};
 use crate::reference::read_state;
 use What::*;
 use given::silk::decoder_structs::SilkDecoderState;
@@ -199,6 +200,11 @@ fn descriptions(t: &mut Table) {
     t.described("interpolation -1", 5, |d| d.dec.indices.nlsf_interp_coef_q2 = -1);
     t.described("interpolation 0", 0, |d| d.dec.indices.nlsf_interp_coef_q2 = 0);
     t.described("interpolation 5", 5, |d| d.dec.indices.nlsf_interp_coef_q2 = 5);
+    // Numbers outside 8 bits whose low 8 bits are permitted.
+    t.described("signal 258", 5, |d| d.numbers.push((SIGNAL, 258)));
+    t.described("signal -256", 5, |d| d.numbers.push((SIGNAL, -256)));
+    t.described("offset 256", 5, |d| d.numbers.push((OFFSET, 256)));
+    t.described("interpolation 65,536", 5, |d| d.numbers.push((INTERPOLATION, 65_536)));
     t.described("gain 81,919", 6, |d| d.control.gains_q16[0] = 81_919);
     t.described("gain 1,686,110,208", 0, |d| d.control.gains_q16[3] = 1_686_110_208);
     t.described("gain 1,686,110,209", 6, |d| d.control.gains_q16[3] = 1_686_110_209);
@@ -226,20 +232,34 @@ fn descriptions(t: &mut Table) {
     t.described("gain before lag", 6, |d| (d.dec.indices.signal_type, d.control.gains_q16[0], d.control.pitch_l[0]) = (2, 0, 0));
     t.described("lag before taps", 7, |d| (d.dec.indices.signal_type, d.control.ltp_scale_q14, d.control.pitch_l[0]) = (2, -1, 0));
     t.described("history before signal", 3, |d| (d.dec.indices.signal_type, d.dec.loss_cnt) = (3, -1));
+    for received in [2, -1, 256, i32::MIN] {
+        t.add(Received, "any number but 0 is a received frame", 10, |d| d.pulses.clear());
+        t.0.last_mut().unwrap().draft.numbers.push((RECEIVED, received));
+    }
+    t.add(Received, "0 is a lost frame", 0, |d| {
+        d.numbers.push((RECEIVED, 0));
+        d.pulses.clear();
+    });
+    for what in [Received, Lost, Core, PlcReceived, PlcLost, Noise] {
+        t.add(what, "a shape that is none, which is not read", 0, |d| d.numbers.extend([(RATE, 9), (SUBFRAMES, 3)]));
+    }
+    for what in [Core, PlcReceived, PlcLost, Noise] {
+        t.add(what, "a stage does not read whether its frame is received", 0, |d| d.numbers.push((RECEIVED, i32::MAX)));
+    }
     for what in [Lost, PlcLost] {
         let any = |d: &mut Draft| {
             (d.control.gains_q16, d.control.pitch_l, d.control.ltp_scale_q14) = ([-1; 4], [-1; 4], -1);
             d.control.ltp_coef_q14 = [-1; 20];
         };
         t.outcome(what, "any description, kept but for the lags", 0, any, |_, c| {
-            c.control[..4] == [33; 4] && c.control[4..] == [-1; 5] && c.taps == [-1; 20]
+            c.frame[LAGS..GAINS] == [33; 4] && c.frame[GAINS..] == [-1; 5] && c.coefs.iter().take(20).all(|tap| *tap == -1)
         });
     }
     t.add(Noise, "gain 81,919", 6, |d| d.control.gains_q16[3] = 81_919);
     t.add(Noise, "gain 81,919 after a loss", 0, |d| (d.dec.loss_cnt, d.control.gains_q16) = (1, [81_919; 4]));
     t.add(Noise, "gain before length", 6, |d| (d.control.gains_q16[0], d.length) = (0, 0));
     let voiced = |d: &mut Draft| (d.dec.indices.signal_type, d.control.ltp_coef_q14, d.control.pitch_l) = (2, [7; 20], [40; 4]);
-    t.outcome(PlcReceived, "the description is kept", 0, voiced, |_, c| c.control[..4] == [40; 4] && c.taps == [7; 20]);
+    t.outcome(PlcReceived, "the description is kept", 0, voiced, |_, c| c.frame[LAGS..GAINS] == [40; 4] && c.coefs[..20] == [7; 20]);
     let at_8 = |d: &mut Draft| {
         *d = Draft::plain(Received, 8, 2);
         (d.lines, d.dec.prev_nlsf_q15[10]) = ([5; 16], -7);
@@ -357,13 +377,23 @@ fn bench(t: &mut Table) {
         |d| (d.dec.indices.signal_type, d.dec.indices.seed) = (2, 7),
         |s, _| s.exc_q14[0] == -512,
     );
+    t.outcome(
+        Core,
+        "of seed 263 the low 8 bits, 7",
+        0,
+        |d| {
+            d.dec.indices.signal_type = 2;
+            d.numbers.push((SEED, 263));
+        },
+        |s, c| s.exc_q14[0] == -512 && c.frame[SEED] == 263,
+    );
     for what in [Received, Core] {
         let after_loss = |d: &mut Draft| {
             (d.dec.loss_cnt, d.dec.prev_signal_type, d.dec.lag_prev) = (1, 2, 50);
             (d.control.ltp_coef_q14, d.control.pitch_l) = ([7; 20], [-1; 4]);
         };
         t.outcome(what, "unvoiced after a voiced loss", 0, after_loss, |_, c| {
-            c.control[..4] == [50, 50, -1, -1] && c.taps[..10] == [0, 0, 4096, 0, 0, 0, 0, 4096, 0, 0] && c.taps[10..] == [7; 10]
+            c.frame[LAGS..GAINS] == [50, 50, -1, -1] && c.coefs[..10] == [0, 0, 4096, 0, 0, 0, 0, 4096, 0, 0] && c.coefs[10..20] == [7; 10]
         });
     }
     fn taps(t: &mut Table, label: &str, change: fn(&mut Draft), holds: fn(&SilkDecoderState, &Call) -> bool) {
@@ -384,14 +414,14 @@ fn bench(t: &mut Table) {
             "pitch 40,960",
             0,
             |d| d.dec.s_plc.pitch_l_q8 = 40_960,
-            |s, c| s.s_plc.pitch_l_q8 == 42_620 && c.control[..4] == [166; 4] && s.loss_cnt == 1,
+            |s, c| s.s_plc.pitch_l_q8 == 42_620 && c.frame[LAGS..GAINS] == [166; 4] && s.loss_cnt == 1,
         );
         t.outcome(
             what,
             "pitch 73,728",
             0,
             |d| d.dec.s_plc.pitch_l_q8 = 73_728,
-            |s, c| s.s_plc.pitch_l_q8 == 73_728 && c.control[..4] == [288; 4],
+            |s, c| s.s_plc.pitch_l_q8 == 73_728 && c.frame[LAGS..GAINS] == [288; 4],
         );
     }
     t.outcome(

@@ -81,13 +81,9 @@ fn keep(call: &mut Call, trial: Call, fails: &impl Fn(&Call) -> bool) -> bool {
 }
 
 fn numbers(call: &mut Call, plain: &Call, fails: &impl Fn(&Call) -> bool) -> bool {
-    let changes: [fn(&mut Call, &Call) -> bool; 7] = [
+    let changes: [fn(&mut Call, &Call) -> bool; 3] = [
         |c, p| std::mem::replace(&mut c.rate, p.rate) != p.rate,
         |c, p| std::mem::replace(&mut c.subframes, p.subframes) != p.subframes,
-        |c, p| std::mem::replace(&mut c.signal, p.signal) != p.signal,
-        |c, p| std::mem::replace(&mut c.offset, p.offset) != p.offset,
-        |c, p| std::mem::replace(&mut c.interpolation, p.interpolation) != p.interpolation,
-        |c, p| std::mem::replace(&mut c.seed, p.seed) != p.seed,
         |c, p| std::mem::replace(&mut c.length, p.length) != p.length,
     ];
     let mut changed = false;

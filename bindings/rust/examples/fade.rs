@@ -25,19 +25,19 @@ struct Start {
 fn start(file: &str) -> Result<Start, String> {
     let refused = |why: Refusal| format!("{file}: a frame is refused: {why}");
     let stream = Stream::read(file)?;
-    let mut post = Post::set_up(stream.rate, stream.subframes).map_err(refused)?;
+    let mut post = Post::set_up(stream.shape).map_err(refused)?;
     let mut best = (0, post.clone());
     let mut output = vec![];
     for record in stream.records {
         output.resize(record.samples.len(), 0);
         if let Some((params, mut description, pulses)) = record.frame {
-            post.received(params, &mut description, &pulses, &mut output).map_err(refused)?;
+            post.received(stream.shape, params, &mut description, &pulses, &mut output).map_err(refused)?;
             let level = peak(&output);
             if level > best.0 {
                 best = (level, post.clone());
             }
         } else {
-            post.lost(&mut Description::default(), &mut output).map_err(refused)?;
+            post.lost(stream.shape, &mut Description::default(), &mut output).map_err(refused)?;
         }
     }
     let mut post = best.1;
@@ -46,13 +46,13 @@ fn start(file: &str) -> Result<Start, String> {
             let mut description = Description::default();
             post.clone().plc_lost(&mut description, &mut output)?;
             let level = peak(&output);
-            post.lost(&mut description, &mut output)?;
+            post.lost(stream.shape, &mut description, &mut output)?;
             Ok(level)
         })
         .collect::<Result<Vec<u16>, Refusal>>()
         .map_err(refused)?;
     let bound = post.parts().0[LATER_GAIN] / 4_194_304 + 64;
-    Ok(Start { name: format!("{} kHz, {} subframes", stream.rate, stream.subframes), levels, bound })
+    Ok(Start { name: format!("{} kHz, {} subframes", stream.shape.rate, stream.shape.subframes), levels, bound })
 }
 
 fn peak(samples: &[i16]) -> u16 {

@@ -9,18 +9,18 @@ use stream::Stream;
 /// Plays a stream, and says what was played.
 fn play(file: &str) -> Result<String, String> {
     let stream = Stream::read(file)?;
-    let mut post = Post::set_up(stream.rate, stream.subframes).map_err(|why| format!("{file}: set-up is refused: {why}"))?;
+    let mut post = Post::set_up(stream.shape).map_err(|why| format!("{file}: set-up is refused: {why}"))?;
     let (mut received, mut lost) = (0, 0);
     for (index, record) in stream.records.into_iter().enumerate() {
         let mut output = vec![0; record.samples.len()];
         let played = match record.frame {
             Some((params, mut description, pulses)) => {
                 received += 1;
-                post.received(params, &mut description, &pulses, &mut output)
+                post.received(stream.shape, params, &mut description, &pulses, &mut output)
             }
             None => {
                 lost += 1;
-                post.lost(&mut Description::default(), &mut output)
+                post.lost(stream.shape, &mut Description::default(), &mut output)
             }
         };
         played.map_err(|why| format!("{file}: frame {index} is refused: {why}"))?;

@@ -1,19 +1,20 @@
 //! The yard post's SILK back end: parameters of a frame in, samples out.
 //!
 //! [`Post`] owns a decoder's state. A frame is played by [`Post::received`] or [`Post::lost`]; one that the
-//! back end turns down leaves the state, the description and the output as they were. A call takes up to 25,880
+//! back end turns down leaves the state, the description and the output as they were. A call takes up to 30,664
 //! bytes of stack. The library, which `rt staticlib post` builds or POST_LIBRARY names, is for x86-64 Linux alone. With the feature `filters`,
 //! which is on unless it is turned off, `rt staticlib post_filters` builds the functions of filters: [`stability`], [`sentence`] and [`filter`].
 //!
 //! ```
-//! use post::{Description, Params, Post};
+//! use post::{Description, Params, Post, Shape};
 //!
-//! let mut post = Post::set_up(16, 4)?;
+//! let shape = Shape { rate: 16, subframes: 4 };
+//! let mut post = Post::set_up(shape)?;
 //! let mut output = [0i16; 320];
 //! let mut description = Description { gains_q16: [81_920; 4], ..Description::default() };
 //! let pulses = [0i16; 320];
-//! post.received(Params::default(), &mut description, &pulses, &mut output)?;
-//! post.lost(&mut description, &mut output)?;
+//! post.received(shape, Params::default(), &mut description, &pulses, &mut output)?;
+//! post.lost(shape, &mut description, &mut output)?;
 //! # Ok::<(), post::Refusal>(())
 //! ```
 
@@ -124,6 +125,15 @@ fn answered(number: i32) -> Result<(), Refusal> {
     Err(Refusal::ALL[usize::try_from(number - 1).expect("a slice is too short")])
 }
 
+/// A rate and a count of subframes.
+#[derive(Clone, Copy, PartialEq, Eq, Debug)]
+pub struct Shape {
+    /// 8, 12 or 16 kHz.
+    pub rate: i32,
+    /// 2 or 4.
+    pub subframes: i32,
+}
+
 /// The small numbers of a received frame.
 #[derive(Clone, Copy, Default, PartialEq, Eq, Debug)]
 pub struct Params {
@@ -155,26 +165,37 @@ pub struct Description {
     pub nlsf_q15: [i16; 16],
 }
 
-impl Description {
-    fn control(&self) -> [i32; ffi::CONTROL] {
-        let mut control = [0; ffi::CONTROL];
-        control[..4].copy_from_slice(&self.pitch_l);
-        control[4..8].copy_from_slice(&self.gains_q16);
-        control[8] = self.ltp_scale_q14;
-        control
+/// A frame in numbers, as the library takes it.
+struct Numbers {
+    frame: [i32; ffi::FRAME],
+    coefs: [i16; ffi::COEFS],
+}
+
+impl Numbers {
+    /// A received frame, or a lost one where there are no small numbers.
+    fn of(shape: Shape, params: Option<Params>, description: &Description) -> Numbers {
+        let (mut frame, mut coefs) = ([0; ffi::FRAME], [0; ffi::COEFS]);
+        frame[ffi::frame::RECEIVED] = params.is_some().into();
+        frame[ffi::frame::RATE] = shape.rate;
+        frame[ffi::frame::SUBFRAMES] = shape.subframes;
+        let small = params.unwrap_or_default();
+        frame[ffi::frame::SIGNAL] = small.signal_type.into();
+        frame[ffi::frame::OFFSET] = small.quant_offset_type.into();
+        frame[ffi::frame::INTERPOLATION] = small.nlsf_interp_coef_q2.into();
+        frame[ffi::frame::SEED] = small.seed.into();
+        frame[ffi::frame::LAGS..ffi::frame::GAINS].copy_from_slice(&description.pitch_l);
+        frame[ffi::frame::GAINS..ffi::frame::SCALE].copy_from_slice(&description.gains_q16);
+        frame[ffi::frame::SCALE] = description.ltp_scale_q14;
+        coefs[..ffi::coefs::ROWS].copy_from_slice(&description.ltp_coef_q14);
+        coefs[ffi::coefs::ROWS..ffi::coefs::LINES].copy_from_slice(description.pred_coef_q12.as_flattened());
+        coefs[ffi::coefs::LINES..].copy_from_slice(&description.nlsf_q15);
+        Numbers { frame, coefs }
     }
 
-    fn rows(&self) -> [i16; ffi::ROWS] {
-        let mut rows = [0; ffi::ROWS];
-        rows[..16].copy_from_slice(&self.pred_coef_q12[0]);
-        rows[16..].copy_from_slice(&self.pred_coef_q12[1]);
-        rows
-    }
-
-    fn take(&mut self, control: &[i32; ffi::CONTROL]) {
-        self.pitch_l.copy_from_slice(&control[..4]);
-        self.gains_q16.copy_from_slice(&control[4..8]);
-        self.ltp_scale_q14 = control[8];
+    /// What a call may have written: the lags and the taps.
+    fn left(&self, description: &mut Description) {
+        description.pitch_l.copy_from_slice(&self.frame[ffi::frame::LAGS..ffi::frame::GAINS]);
+        description.ltp_coef_q14.copy_from_slice(&self.coefs[..ffi::coefs::ROWS]);
     }
 }
 
@@ -185,11 +206,15 @@ pub struct Post {
     halves: [i16; ffi::HALVES],
 }
 
+/// Where the shape stands in the state's words.
+const RATE: usize = 338;
+const SUBFRAMES: usize = 339;
+
 impl Post {
-    /// A post for 8, 12 or 16 kHz and 2 or 4 subframes.
-    pub fn set_up(rate: i32, subframes: i32) -> Result<Post, Refusal> {
+    /// A post for a shape.
+    pub fn set_up(shape: Shape) -> Result<Post, Refusal> {
         let mut post = Post { words: [0; ffi::WORDS], halves: [0; ffi::HALVES] };
-        answered(ffi::set_up(rate, subframes, &mut post.words, &mut post.halves))?;
+        answered(ffi::set_up(shape.rate, shape.subframes, &mut post.words, &mut post.halves))?;
         Ok(post)
     }
 
@@ -203,55 +228,48 @@ impl Post {
         (&self.words, &self.halves)
     }
 
-    /// Plays a received frame into the first samples of `output`.
-    pub fn received(&mut self, params: Params, description: &mut Description, pulses: &[i16], output: &mut [i16]) -> Result<(), Refusal> {
-        let mut control = description.control();
-        let rows = description.rows();
-        let lines = description.nlsf_q15;
-        answered(ffi::received(
-            &mut self.words,
-            &mut self.halves,
-            params,
-            &mut control,
-            &mut description.ltp_coef_q14,
-            &rows,
-            &lines,
-            pulses,
-            output,
-        ))?;
-        description.take(&control);
+    /// The shape that the post holds.
+    pub fn shape(&self) -> Shape {
+        Shape { rate: self.words[RATE], subframes: self.words[SUBFRAMES] }
+    }
+
+    /// Plays a received frame into the first samples of `output`. Its shape is not read yet: a post keeps that of its set-up.
+    pub fn received(
+        &mut self, shape: Shape, params: Params, description: &mut Description, pulses: &[i16], output: &mut [i16],
+    ) -> Result<(), Refusal> {
+        let mut numbers = Numbers::of(shape, Some(params), description);
+        answered(ffi::frame(&mut self.words, &mut self.halves, &mut numbers.frame, &mut numbers.coefs, pulses, output))?;
+        numbers.left(description);
         Ok(())
     }
 
-    /// Conceals a lost frame; the four lags of the description become the last one.
-    pub fn lost(&mut self, description: &mut Description, output: &mut [i16]) -> Result<(), Refusal> {
-        let mut control = description.control();
-        answered(ffi::lost(&mut self.words, &mut self.halves, &mut control, &mut description.ltp_coef_q14, output))?;
-        description.take(&control);
+    /// Conceals a lost frame; the four lags of the description become the last one. Its shape is not read yet.
+    pub fn lost(&mut self, shape: Shape, description: &mut Description, output: &mut [i16]) -> Result<(), Refusal> {
+        let mut numbers = Numbers::of(shape, None, description);
+        answered(ffi::frame(&mut self.words, &mut self.halves, &mut numbers.frame, &mut numbers.coefs, &[], output))?;
+        numbers.left(description);
         Ok(())
     }
 
     /// The core of a received frame alone.
     pub fn core(&mut self, params: Params, description: &mut Description, pulses: &[i16], output: &mut [i16]) -> Result<(), Refusal> {
-        let mut control = description.control();
-        let rows = description.rows();
-        answered(ffi::core(&mut self.words, &mut self.halves, params, &mut control, &mut description.ltp_coef_q14, &rows, pulses, output))?;
-        description.take(&control);
+        let mut numbers = Numbers::of(self.shape(), Some(params), description);
+        answered(ffi::core(&mut self.words, &mut self.halves, &mut numbers.frame, &mut numbers.coefs, pulses, output))?;
+        numbers.left(description);
         Ok(())
     }
 
     /// What concealment keeps of a received frame, alone.
-    pub fn plc_received(&mut self, params: Params, description: &mut Description) -> Result<(), Refusal> {
-        let mut control = description.control();
-        let rows = description.rows();
-        answered(ffi::plc_received(&mut self.words, &mut self.halves, params, &mut control, &mut description.ltp_coef_q14, &rows))
+    pub fn plc_received(&mut self, params: Params, description: &Description) -> Result<(), Refusal> {
+        let numbers = Numbers::of(self.shape(), Some(params), description);
+        answered(ffi::plc_received(&mut self.words, &mut self.halves, &numbers.frame, &numbers.coefs))
     }
 
     /// Concealment of a lost frame alone.
     pub fn plc_lost(&mut self, description: &mut Description, output: &mut [i16]) -> Result<(), Refusal> {
-        let mut control = description.control();
-        answered(ffi::plc_lost(&mut self.words, &mut self.halves, &mut control, &mut description.ltp_coef_q14, output))?;
-        description.take(&control);
+        let mut numbers = Numbers::of(self.shape(), None, description);
+        answered(ffi::plc_lost(&mut self.words, &mut self.halves, &mut numbers.frame, output))?;
+        numbers.left(description);
         Ok(())
     }
 
@@ -262,12 +280,13 @@ impl Post {
 
     /// Comfort noise on the first `length` samples alone.
     pub fn noise(&mut self, description: &Description, buffer: &mut [i16], length: usize) -> Result<(), Refusal> {
-        answered(ffi::noise(&mut self.words, &mut self.halves, &description.control(), &description.ltp_coef_q14, buffer, length))
+        let numbers = Numbers::of(self.shape(), None, description);
+        answered(ffi::noise(&mut self.words, &mut self.halves, &numbers.frame, buffer, length))
     }
 }
 
 /// The part of an output that a frame of this shape fills, empty for no shape or a short output.
-pub fn played(rate: i32, subframes: i32, output: &mut [i16]) -> &mut [i16] {
-    let count = ffi::played(rate, subframes, output);
+pub fn played(shape: Shape, output: &mut [i16]) -> &mut [i16] {
+    let count = ffi::played(shape.rate, shape.subframes, output);
     &mut output[..count as usize]
 }

@@ -1,9 +1,12 @@
 //! The binding over the linked library.
 
-use post::{Description, Params, Post, Refusal, Stability, filter, played, sentence, stability};
+use post::{Description, Params, Post, Refusal, Shape, Stability, filter, played, sentence, stability};
 
 /// The place of the count of losses in the state's words.
 const LOSS_CNT: usize = 345;
+
+const NARROW: Shape = Shape { rate: 8, subframes: 2 };
+const WIDE: Shape = Shape { rate: 16, subframes: 4 };
 
 fn plain() -> Description {
     Description { pitch_l: [32; 4], gains_q16: [81_920; 4], ..Description::default() }
@@ -11,7 +14,7 @@ fn plain() -> Description {
 
 /// A post whose count of losses is written.
 fn with_losses(losses: i32) -> Post {
-    let post = Post::set_up(16, 4).unwrap();
+    let post = Post::set_up(WIDE).unwrap();
     let (mut words, halves) = (*post.parts().0, *post.parts().1);
     words[LOSS_CNT] = losses;
     Post::from_parts(words, halves)
@@ -19,9 +22,9 @@ fn with_losses(losses: i32) -> Post {
 
 /// A received frame that is to be refused, with everything left as it was.
 fn refused(params: Params, description: Description, pulses: usize, output: usize) -> Refusal {
-    let mut post = Post::set_up(16, 4).unwrap();
+    let mut post = Post::set_up(WIDE).unwrap();
     let (before, mut changed, mut samples) = (post.clone(), description.clone(), vec![-1; output]);
-    let why = post.received(params, &mut changed, &vec![0; pulses], &mut samples).unwrap_err();
+    let why = post.received(WIDE, params, &mut changed, &vec![0; pulses], &mut samples).unwrap_err();
     assert_eq!(post, before);
     assert_eq!(changed, description);
     assert_eq!(samples, vec![-1; output]);
@@ -39,10 +42,10 @@ fn numbers_and_words() {
 fn each_refusal() {
     let voiced = Params { signal_type: 2, ..Params::default() };
     let found = [
-        Post::set_up(48, 4).unwrap_err(),
-        Post::set_up(16, 3).unwrap_err(),
-        with_losses(-1).lost(&mut plain(), &mut [0; 320]).unwrap_err(),
-        with_losses(i32::MAX).lost(&mut Description::default(), &mut [0; 320]).unwrap_err(),
+        Post::set_up(Shape { rate: 48, ..WIDE }).unwrap_err(),
+        Post::set_up(Shape { subframes: 3, ..WIDE }).unwrap_err(),
+        with_losses(-1).lost(WIDE, &mut plain(), &mut [0; 320]).unwrap_err(),
+        with_losses(i32::MAX).lost(WIDE, &mut Description::default(), &mut [0; 320]).unwrap_err(),
         refused(Params { signal_type: 3, ..voiced }, plain(), 320, 320),
         refused(voiced, Description { gains_q16: [81_919; 4], ..plain() }, 320, 320),
         refused(voiced, Description { pitch_l: [32, 32, 32, 289], ..plain() }, 320, 320),
@@ -50,7 +53,7 @@ fn each_refusal() {
         refused(voiced, Description { nlsf_q15: [-1; 16], ..plain() }, 320, 320),
         refused(voiced, plain(), 319, 320),
         refused(voiced, plain(), 320, 319),
-        Post::set_up(16, 4).unwrap().glue(&mut [0; 320], 0).unwrap_err(),
+        Post::set_up(WIDE).unwrap().glue(&mut [0; 320], 0).unwrap_err(),
         stability(&[0; 16], 17).unwrap_err(),
     ];
     assert_eq!(found, Refusal::ALL);
@@ -58,23 +61,24 @@ fn each_refusal() {
 
 #[test]
 fn a_frame_and_its_loss() {
-    let mut post = Post::set_up(16, 4).unwrap();
+    let mut post = Post::set_up(WIDE).unwrap();
     let (mut output, mut description) = ([1; 400], plain());
-    post.received(Params::default(), &mut description, &[0; 320], &mut output).unwrap();
+    post.received(WIDE, Params::default(), &mut description, &[0; 320], &mut output).unwrap();
     assert_eq!(output[320..], [1; 80]);
     assert_eq!(post.parts().0[LOSS_CNT], 0);
-    post.lost(&mut description, &mut output).unwrap();
+    post.lost(WIDE, &mut description, &mut output).unwrap();
     assert_eq!(post.parts().0[LOSS_CNT], 1);
     assert_eq!(description.pitch_l, [description.pitch_l[3]; 4]);
 }
 
 #[test]
 fn stages_alone() {
-    let mut post = Post::set_up(8, 2).unwrap();
+    let mut post = Post::set_up(NARROW).unwrap();
+    assert_eq!(post.shape(), NARROW);
     let (mut description, mut output) = (plain(), [0; 80]);
     post.core(Params::default(), &mut description, &[1; 80], &mut output).unwrap();
     assert_ne!(output, [0; 80]);
-    post.plc_received(Params::default(), &mut description).unwrap();
+    post.plc_received(Params::default(), &description).unwrap();
     post.plc_lost(&mut description, &mut output).unwrap();
     assert_eq!(post.parts().0[LOSS_CNT], 1);
 }
@@ -82,9 +86,9 @@ fn stages_alone() {
 #[test]
 fn played_part() {
     let mut output = [7; 400];
-    assert_eq!(played(16, 4, &mut output).len(), 320);
-    assert_eq!(played(16, 3, &mut output).len(), 0);
-    assert_eq!(played(8, 2, &mut output[..79]).len(), 0);
+    assert_eq!(played(WIDE, &mut output).len(), 320);
+    assert_eq!(played(Shape { subframes: 3, ..WIDE }, &mut output).len(), 0);
+    assert_eq!(played(NARROW, &mut output[..79]).len(), 0);
 }
 
 #[test]

@@ -1,11 +1,10 @@
 //! Reads a recorded stream: the frames of one call, each with its parameters and the samples that were played.
 
-use post::{Description, Params};
+use post::{Description, Params, Shape};
 use std::{fs, path::Path};
 
 pub struct Stream {
-    pub rate: i32,
-    pub subframes: i32,
+    pub shape: Shape,
     pub records: Vec<Record>,
 }
 
@@ -84,7 +83,7 @@ impl Stream {
             let count = u32::from_le_bytes(bytes.take()?);
             let length = (5 * rate * subframes) as usize;
             let records = (0..count).map(|_| bytes.record(length)).collect::<Result<Vec<Record>, String>>()?;
-            Ok(Stream { rate, subframes, records })
+            Ok(Stream { shape: Shape { rate, subframes }, records })
         })?;
         let rust = file.with_extension("rust.pcm");
         if rust.exists() {

@@ -4,7 +4,7 @@
  * functions of filters (target/staticlib/libpost_filters.a); either archive may be linked alone.
  * Both are for x86-64 Linux alone. They call memcpy and memset and nothing else, and have no
  * variables of their own: calls on different states may run at the same time. A call takes up to
- * 25,880 bytes of stack (docs/BENCHMARKS.md).
+ * 30,664 bytes of stack (docs/BENCHMARKS.md).
  *
  * A slice is a pointer and the count of its elements. The slices of one call may not overlap, not
  * even pulses and output: the proofs rest on it.
@@ -13,10 +13,9 @@
  *     0           done
  *    -1           a slice is shorter than its POST_ size below
  *     1 to 13     the first refusal that applies (enum post_refusal)
- * of which -1 comes first. Pulses, output, buffer, coefficients and the lines of post_filter have no
- * such size: 10 to 13 say that they are too short. A call that does not answer 0 writes nothing. One
- * that does leaves what lies past a slice's size, past a frame's samples, past a length or past an
- * order as it was.
+ * of which -1 comes first. Pulses, output, buffer, coefficients and lines have no such size: 10 to
+ * 13 say that they are too short. A call that does not answer 0 writes nothing. One that does leaves
+ * what lies past a slice's size, past a frame's samples, past a length or past an order as it was.
  *
  * r is the rate in kHz and n the count of subframes that post_set_up was given; a frame has 5rn
  * samples. The order is 10 at 8 and 12 kHz, 16 at 16 kHz. Qk is a number times 2^k.
@@ -35,17 +34,10 @@
  *                s_plc: 496 ltp_coef_q14 (5), prev_lpc_q12 (16), rand_scale_q14,
  *                prev_ltp_scale_q14;
  *                s_cng: 519 cng_smth_nlsf_q15 (16)
- * control        0 to 3 the subframes' lags, in samples; 4 to 7 their gains, Q16; 8 the LTP scale,
- *                Q14. Of four places the first n count.
- * taps           five for each subframe, Q14
- * rows           two rows of coefficients, Q12, the second from place 16 on at every order.
- *                Subframes 0 and 1 are played with the first, 2 and 3 with the second; concealment
- *                keeps the second of every frame. So both are to be filled, also where n is 2.
- * lines          the frame's line frequencies, Q15; the first 10 or 16 count
- * signal         0 inactive, 1 unvoiced, 2 voiced
- * offset         quantisation offset type
- * interpolation  of the lines, Q2; 4 is none
- * seed           of the excitation's generator, any number */
+ * frame, coefs   a frame in numbers; the places are POST_FRAME_ and POST_COEFS_ below. Of four
+ *                lags, gains or groups of taps the first n count. A call that answers 0 writes of
+ *                frame only the lags and of coefs only the taps.
+ * pulses         the excitation's, 5rn or more */
 #ifndef POST_H
 #define POST_H
 
@@ -60,16 +52,38 @@ extern "C" {
 enum {
     POST_WORDS = 696,
     POST_HALVES = 535,
-    POST_CONTROL = 9,
-    POST_TAPS = 20,
-    POST_ROWS = 32,
-    POST_LINES = 16,
+    POST_FRAME = 16,
+    POST_COEFS = 68,
     POST_ANSWER = 2,
     POST_TEXT = 64
 };
 
 /* The samples of the longest frame; pulses and output need no more, and 5rn are enough. */
 enum { POST_LONGEST_FRAME = 320 };
+
+/* A frame's numbers of 32 bits. */
+enum {
+    POST_FRAME_RECEIVED = 0,      /* 0 lost, any other received. The stages do not read it */
+    POST_FRAME_RATE = 1,          /* kHz. Not read yet, as the next: a post keeps the shape of its set-up */
+    POST_FRAME_SUBFRAMES = 2,
+    POST_FRAME_SIGNAL = 3,        /* 0 inactive, 1 unvoiced, 2 voiced */
+    POST_FRAME_OFFSET = 4,        /* quantisation offset type, 0 or 1 */
+    POST_FRAME_INTERPOLATION = 5, /* of the lines, Q2, 0 to 4; 4 is none */
+    POST_FRAME_SEED = 6,          /* of the excitation's generator; the low 8 bits count */
+    POST_FRAME_LAGS = 7,          /* 4, in samples; 2r to 18r if the signal is 2 */
+    POST_FRAME_GAINS = 11,        /* 4, Q16, 81,920 to 1,686,110,208 */
+    POST_FRAME_SCALE = 15         /* LTP scale, Q14, 0 to 16,384 */
+};
+
+/* A frame's numbers of 16 bits. */
+enum {
+    POST_COEFS_TAPS = 0,  /* five for each of four subframes, Q14 */
+    POST_COEFS_ROWS = 20, /* two rows of coefficients, Q12, the second from 36 on at every order.
+                             Subframes 0 and 1 are played with the first, 2 and 3 with the second;
+                             concealment keeps the second of every frame. So both are to be filled,
+                             also where n is 2 */
+    POST_COEFS_LINES = 52 /* the frame's line frequencies, Q15, none negative; the first 10 or 16 count */
+};
 
 enum post_refusal {
     POST_SHORT = -1,
@@ -96,44 +110,33 @@ enum post_refusal {
 int32_t post_set_up(int32_t rate, int32_t subframes,
                     int32_t *words, size_t words_len, int16_t *halves, size_t halves_len);
 
-/* A received frame: 5rn samples into output. It may change lags and taps: after the loss of a
- * voiced frame, those of the first two subframes of a frame that is not. Refused by 1 to 3 and 5
- * to 11. */
-int32_t post_received(int32_t *words, size_t words_len, int16_t *halves, size_t halves_len,
-                      int8_t signal, int8_t offset, int8_t interpolation, int8_t seed,
-                      int32_t *control, size_t control_len, int16_t *taps, size_t taps_len,
-                      const int16_t *rows, size_t rows_len, const int16_t *lines, size_t lines_len,
-                      const int16_t *pulses, size_t pulses_len, int16_t *output, size_t output_len);
-
-/* A lost frame: as many samples, concealed. Control and taps may hold anything; all four lags
- * become the last concealed one. Refused by 1 to 4 and 11. */
-int32_t post_lost(int32_t *words, size_t words_len, int16_t *halves, size_t halves_len,
-                  int32_t *control, size_t control_len, int16_t *taps, size_t taps_len,
-                  int16_t *output, size_t output_len);
+/* A frame: 5rn samples into output. A received one may have its first two lags and its first ten
+ * taps changed: after the loss of a voiced frame, where it is not voiced itself. Refused by 1 to 3
+ * and 5 to 11. A lost one is concealed. Of its frame only the first place is read, and of coefs and
+ * pulses nothing, but coefs must have its size; all four lags become the last concealed one.
+ * Refused by 1 to 4 and 11. */
+int32_t post_frame(int32_t *words, size_t words_len, int16_t *halves, size_t halves_len,
+                   int32_t *frame, size_t frame_len, int16_t *coefs, size_t coefs_len,
+                   const int16_t *pulses, size_t pulses_len, int16_t *output, size_t output_len);
 
 /* The count of samples of output that a frame fills, 0 for no shape or a short output. */
 int32_t post_played(int32_t rate, int32_t subframes, const int16_t *output, size_t output_len);
 
 /* The stages alone, on the state of a frame: the synthesis of a received one (refused by 1 to 3, 5
- * to 8, 10, 11); what concealment keeps of it, which changes neither control nor taps (1 to 3, 5 to
- * 8); concealment of a lost one (1 to 4, 11); gluing (1 to 3, 12) and comfort noise (1 to 3, 12, and
- * 6 where loss_cnt is 0) of a buffer's first length samples. */
+ * to 8, 10, 11); what concealment keeps of it (1 to 3, 5 to 8); concealment of a lost one (1 to 4,
+ * 11); gluing (1 to 3, 12) and comfort noise (1 to 3, 12, and 6 where loss_cnt is 0) of a buffer's
+ * first length samples. */
 int32_t post_core(int32_t *words, size_t words_len, int16_t *halves, size_t halves_len,
-                  int8_t signal, int8_t offset, int8_t interpolation, int8_t seed,
-                  int32_t *control, size_t control_len, int16_t *taps, size_t taps_len,
-                  const int16_t *rows, size_t rows_len,
+                  int32_t *frame, size_t frame_len, int16_t *coefs, size_t coefs_len,
                   const int16_t *pulses, size_t pulses_len, int16_t *output, size_t output_len);
 int32_t post_plc_received(int32_t *words, size_t words_len, int16_t *halves, size_t halves_len,
-                          int8_t signal, int8_t offset, int8_t interpolation,
-                          int32_t *control, size_t control_len, int16_t *taps, size_t taps_len,
-                          const int16_t *rows, size_t rows_len);
+                          const int32_t *frame, size_t frame_len, const int16_t *coefs, size_t coefs_len);
 int32_t post_plc_lost(int32_t *words, size_t words_len, int16_t *halves, size_t halves_len,
-                      int32_t *control, size_t control_len, int16_t *taps, size_t taps_len,
-                      int16_t *output, size_t output_len);
+                      int32_t *frame, size_t frame_len, int16_t *output, size_t output_len);
 int32_t post_glue(int32_t *words, size_t words_len, int16_t *halves, size_t halves_len,
                   int16_t *buffer, size_t buffer_len, size_t length);
 int32_t post_noise(int32_t *words, size_t words_len, int16_t *halves, size_t halves_len,
-                   const int32_t *control, size_t control_len, const int16_t *taps, size_t taps_len,
+                   const int32_t *frame, size_t frame_len,
                    int16_t *buffer, size_t buffer_len, size_t length);
 
 /* The functions of filters, in libpost_filters.a. */
