@@ -2,7 +2,7 @@
 
 use crate::call::{BYTES, Call, Draft, LONG, SHORT};
 use crate::draw::{Number, SHAPES};
-use crate::reference::{read_state, write_state};
+use crate::reference::{HALVES, WORDS, read_state, write_state};
 
 /// The smallest failing call found, and the plain call that it is told apart from.
 pub fn shrink(mut call: Call, fails: impl Fn(&Call) -> bool) -> (Call, Call) {
@@ -43,7 +43,7 @@ fn reshape(call: &mut Call, fails: &impl Fn(&Call) -> bool) -> bool {
 fn shape(call: &Call) -> Option<(i32, i32)> {
     let held = if call.words.is_empty() || call.halves.is_empty() {
         (call.rate, call.subframes)
-    } else if call.words.len() >= 696 && call.halves.len() >= 535 {
+    } else if call.words.len() >= WORDS && call.halves.len() >= HALVES {
         let dec = read_state(&call.words, &call.halves);
         (dec.fs_khz, dec.nb_subfr)
     } else {
@@ -56,7 +56,7 @@ fn shape(call: &Call) -> Option<(i32, i32)> {
 fn reshaped(call: &Call, rate: i32, subframes: i32) -> Call {
     let mut call = call.clone();
     (call.rate, call.subframes) = (rate, subframes);
-    if call.words.len() >= 696 && call.halves.len() >= 535 {
+    if call.words.len() >= WORDS && call.halves.len() >= HALVES {
         let mut dec = read_state(&call.words, &call.halves);
         let plain = crate::reference::set_up(rate, subframes);
         for fs_khz in [&mut dec.s_plc.fs_khz, &mut dec.s_cng.fs_khz] {
