@@ -1,5 +1,5 @@
 /* Tells of three filters whether they are stable, or why not. */
-#include "../post.h"
+#include "post.h"
 
 #include <stdio.h>
 
