@@ -1,7 +1,7 @@
 -- Comfort noise keeps its part of the state in range, the types, and the frame's length.
 use Prim.Native.Nat.{ℕ, zero, suc, _-_, _*_, _<_, _≤_}
 use mathlib.Core.Path.{_≡_, _∙_}
-use mathlib.Core.Bool.{Bool, true, false, cond}
+use mathlib.Core.Bool.{true}
 use mathlib.Core.List.{List, [], _∷_, _++_}
 use native.Mathlib.Omega.{arith}
 use lib.IntN.{ℤ, pos, _+ℤ_, _-ℤ_}
@@ -26,7 +26,7 @@ use Rattle.decoder.specs.Outcome.{Framed}
 use Rattle.decoder.specs.Typed.{Words, TypedCng, Typed}
 use Rattle.decoder.specs.declared.SilkCNGState.{SilkCNGState}
 use Rattle.decoder.specs.declared.SilkDecoderState.{SilkDecoderState}
-use Rattle.decoder.proofs.Between.{AllBetween}
+use Rattle.decoder.proofs.Between.{either, AllBetween}
 use Rattle.decoder.proofs.Bounds.{CngHeldBounds, CngBounds, cng-fits}
 use Rattle.decoder.proofs.Built.{typed-build}
 use Rattle.decoder.proofs.Types.{AllFit, zero-fits, nil-fits, cons-fits, append-fits, drop-fits, append-words, take-words, drop-words, zeros-words}
@@ -66,11 +66,6 @@ tracked-held p exc lines gains h low b k g =
       «cng_smth_gain_q16» = smoothed-gain-between low (h .«cng_smth_gain_q16») gains (p .subframes) (b .«cng_smth_gain_q16») g;
     }
 
--- one of two
-either : (Q : SilkCNGState → Type 0) (t : Bool) (x y : SilkCNGState) → Q x → Q y → Q (cond t x y)
-either Q true x y h k = h
-either Q false x y h k = k
-
 -- at the state's rate the noise's part stays in range; where no frame is lost the gains have to be
 pub comfort-held : (s : SilkDecoderState) (gains : List ℤ) (n : ℕ) (frame : List ℤ) (low : ℕ) → CngBounds (rateOf (s .«fs_khz»)) (s .«s_cng»)
     → AllBetween 0 32767 (s .«prev_nlsf_q15») (orderOf (rateOf (s .«fs_khz»)))
@@ -82,7 +77,7 @@ comfort-held s gains n frame low b lines g =
     let h = cngReady r (s .«s_cng») in
     let held = ready-held r (s .«s_cng») b in
     by-cases p s gains n frame (λ (x : Framed). CngHeldBounds r (x .state .«s_cng»))
-    (λ e. silenced-held r (orderOf r) _ (either (CngHeldBounds r) (eqℤ (s .«prev_signal_type») (pos 0)) (tracked p (s .«exc_q14») (s .«prev_nlsf_q15») gains h) h (tracked-held p (s .«exc_q14») (s .«prev_nlsf_q15») gains h low held lines (g e)) held))
+    (λ e. silenced-held r (orderOf r) _ (either (CngHeldBounds r) (eqℤ (s .«prev_signal_type») (pos 0)) (tracked-held p (s .«exc_q14») (s .«prev_nlsf_q15») gains h low held lines (g e)) held))
     (λ gain. sounded-held r (orderOf r) n h held)
 
 pub comfort-fits : (s : SilkDecoderState) (gains : List ℤ) (n : ℕ) (frame : List ℤ) (low : ℕ) → CngBounds (rateOf (s .«fs_khz»)) (s .«s_cng»)
@@ -124,7 +119,7 @@ reset-typed r h l o t =
 
 ready-typed : (r : ℕ) (h : SilkCNGState) → r ≤ 16 → orderOf r ≤ 16 → TypedCng h → TypedCng (cngReady r h)
 unfolding cngReady
-ready-typed r h l o t = either TypedCng (eqℤ (pos r) (h .«fs_khz»)) h (cngReset r h) t (reset-typed r h l o t)
+ready-typed r h l o t = either TypedCng (eqℤ (pos r) (h .«fs_khz»)) t (reset-typed r h l o t)
 
 moved-words : (exc held : List ℤ) (l n k : ℕ) → k < n → n ≤ 4 → l ≤ 80 → Words w32 320 exc → Words w32 320 held → Words w32 320 (movedIn l n exc held k)
 unfolding movedIn
@@ -214,7 +209,7 @@ comfort-typed s gains n frame b g t =
     let h = cngReady (p .rate) (s .«s_cng») in
     let th = ready-typed (p .rate) (s .«s_cng») (b .rate-high) (b .order-high) (t .«s_cng») in
     by-cases p s gains n frame (λ (x : Framed). Typed (x .state))
-    (λ e. with-typed s _ t (silenced-typed (orderOf (p .rate)) _ (b .order-high) (either TypedCng (eqℤ (s .«prev_signal_type») (pos 0)) (tracked p (s .«exc_q14») (s .«prev_nlsf_q15») gains h) h (tracked-typed p (s .«exc_q14») (s .«prev_nlsf_q15») gains h b (t .«exc_q14») g th) th)))
+    (λ e. with-typed s _ t (silenced-typed (orderOf (p .rate)) _ (b .order-high) (either TypedCng (eqℤ (s .«prev_signal_type») (pos 0)) (tracked-typed p (s .«exc_q14») (s .«prev_nlsf_q15») gains h b (t .«exc_q14») g th) th)))
     (λ gain. with-typed s _ t (sounded-typed (orderOf (p .rate)) n h th))
 
 -- ---- the frame

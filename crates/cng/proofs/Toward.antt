@@ -1,7 +1,6 @@
 -- A number of a range moved a part of the way to another stays in the range.
 use Prim.Native.Nat.{ℕ, zero, suc, _+_, _*_, _^_, _<_, _≤_}
 use mathlib.Core.Path.{_≡_, refl, sym, ap, _∙_, subst}
-use mathlib.Core.Bool.{Bool, true, false, cond}
 use mathlib.Core.List.{List}
 use native.Mathlib.Omega.{arith}
 use native.Mathlib.Nat.{mul-le-mul-left}
@@ -14,7 +13,7 @@ use Rattle.word.proofs.Parts.{P, N, add-parts, sub-parts-ℤ, mul-parts, div-pa
 use Rattle.word.proofs.Sizes.{abs-le, abs-fits}
 use Rattle.word.proofs.Words.{wrap-id}
 use Rattle.macros.specs.Fixed.{smulwb, smulww}
-use Rattle.decoder.proofs.Between.{Between, AllBetween}
+use Rattle.decoder.proofs.Between.{either, Between, AllBetween}
 use Rattle.cng.specs.Noise.{smoothedLine, nextGain, smoothedGain}
 
 -- a range by the two parts
@@ -66,10 +65,6 @@ smoothed-line-between held line h k =
     let m = moved 32767 16348 held line (omega arith) (omega arith) h k in
     rw (wrap-id {w = w16} (abs-fits (held +ℤ smulwb (line -ℤ held) (pos 16348)) (omega (arith, m .high)))) m
 
-either : (t : Bool) (M : ℕ) (x y : ℤ) → Between 0 M x → Between 0 M y → Between 0 M (cond t x y)
-either true M x y h k = h
-either false M x y h k = k
-
 pub next-gain-between : (held g : ℤ) → Between 0 1686110208 held → Between 0 1686110208 g → Between 0 1686110208 (nextGain held g)
 unfolding nextGain
 next-gain-between held g h k =
@@ -80,7 +75,7 @@ next-gain-between held g h k =
     (difference-kept (natAbs held) (natAbs g) 1686110208 (h .high) (k .high) (omega arith))) in
     let e : wrap32 (held +ℤ smulwb (wrap32 (g -ℤ held)) (pos 4634)) ≡ held +ℤ smulwb (g -ℤ held) (pos 4634) =
     ap (λ (v : ℤ). wrap32 (held +ℤ smulwb v (pos 4634))) d ∙ wrap-id {w = w32} (abs-fits (held +ℤ smulwb (g -ℤ held) (pos 4634)) (omega (arith, m .high))) in
-    either (ltZ g (smulww (wrap32 (held +ℤ smulwb (wrap32 (g -ℤ held)) (pos 4634))) (pos 46396))) 1686110208 g _ k (subst (Between 0 1686110208) (sym e) m)
+    either (Between 0 1686110208) (ltZ g (smulww (wrap32 (held +ℤ smulwb (wrap32 (g -ℤ held)) (pos 4634))) (pos 46396))) k (subst (Between 0 1686110208) (sym e) m)
 
 pub smoothed-gain-between : (low : ℕ) (held : ℤ) (gains : List ℤ) (n : ℕ) → Between 0 1686110208 held → AllBetween low 1686110208 gains n → Between 0 1686110208 (smoothedGain held gains n)
 unfolding smoothedGain

@@ -1,7 +1,7 @@
 -- Tests that hold together, and the ranges of numbers that they say.
 use Prim.Native.Nat.{ℕ, zero, suc, _<_, _≤_, zero-le}
 use mathlib.Core.Path.{_≡_, refl, sym}
-use mathlib.Core.Bool.{Bool, true, false, not, _&&_, false≢true}
+use mathlib.Core.Bool.{Bool, true, false, not, cond, _&&_, false≢true}
 use mathlib.Core.List.{List, [], _∷_}
 use native.Mathlib.Omega.{arith}
 use native.Mathlib.Nat.{le-refl, not-suc-le-zero}
@@ -32,6 +32,11 @@ holds b (c ∷ cs) e =
 pub together : (b : Bool) (cs : List Bool) → Holds (b ∷ cs) → conj b cs ≡ true
 together b [] h = h .0
 together b (c ∷ cs) h = together (b && c) cs (rw (h .0) (h .1 .0), h .1 .1)
+
+-- what holds of both holds of either
+pub either : {A : Type 0} (Q : A → Type 0) (b : Bool) {x y : A} → Q x → Q y → Q (cond b x y)
+either Q true h k = h
+either Q false h k = k
 
 -- a row that does not apply
 pub passes : (b : Bool) → not b ≡ false → b ≡ true

@@ -6,3 +6,4 @@ pub mod Bounds
 pub mod Types
 pub mod SetUps
 pub mod Built
+pub mod Coming

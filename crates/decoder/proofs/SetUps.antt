@@ -41,11 +41,11 @@ zero-at zero i = refl
 zero-at (suc n) zero = refl
 zero-at (suc n) (suc i) = zero-at n i
 
-zeros-between : (b n k : ℕ) → AllBetween 0 b (replicate n (pos 0)) k
+pub zeros-between : (b n k : ℕ) → AllBetween 0 b (replicate n (pos 0)) k
 zeros-between b n k i h = rw (zero-at n i) (in-range 0 b 0 zero-le zero-le)
 
 -- no rate is 0
-no-rate-0 : (khz : ℤ) → isRate khz ≡ true → pos 0 ≡ pos (rateOf khz) → ⊥
+pub no-rate-0 : (khz : ℤ) → isRate khz ≡ true → pos 0 ≡ pos (rateOf khz) → ⊥
 no-rate-0 khz e z =
     let b = rate-range (rates khz e) .0 in
     let k : natAbs (pos 0) ≡ natAbs (pos (rateOf khz)) = ap natAbs z in
@@ -111,7 +111,7 @@ plc-typed =
     }
 
 -- a small number fits 32 bits
-small-fits : (n : ℕ) → n < 2147483648 → SFits w32 (pos n)
+pub small-fits : (n : ℕ) → n < 2147483648 → SFits w32 (pos n)
 small-fits n h = record { sfits = h }
 
 pub fresh-typed : (khz nb : ℤ) → SFits w32 khz → SFits w32 nb → Typed (fresh khz nb)
@@ -138,10 +138,10 @@ fresh-typed khz nb e f =
     }
 
 -- ---- at a rate and a count
-rate-fits : (khz : ℤ) → isRate khz ≡ true → SFits w32 khz
+pub rate-fits : (khz : ℤ) → isRate khz ≡ true → SFits w32 khz
 rate-fits khz e = rw (rate-kept khz e) (small-fits _ (small khz))
 
-count-fits : (nb : ℤ) → isCount nb ≡ true → SFits w32 nb
+pub count-fits : (nb : ℤ) → isCount nb ≡ true → SFits w32 nb
 count-fits nb e = rw (count-kept nb e) (small-fits _ (omega (arith, count-le nb)))
 
 pub set-up-accepted : (khz nb : ℤ) → isRate khz ≡ true → isCount nb ≡ true → Accepted (rateOf khz) (setUp khz nb .state)

@@ -8,9 +8,10 @@ use borrow.Author.Tests.{eqb-true, eqb-false}
 use lib.Dec.{eqb}
 use lib.IntN.{ℤ, pos}
 use mir.Syntax.{Width, w32}
-use mir.Val.{ofZ, SFits, hbits}
+use mir.Val.{toZ, ofZ, SFits, hbits}
+use mir.Facts.{toZ-ofZ}
 use Rattle.word.specs.Int.{eqℤ, wrap32}
-use Rattle.word.proofs.Order.{is, isnt}
+use Rattle.word.proofs.Order.{is, isnt, eqℤ-refl, eqℤ-ne}
 use Rattle.word.proofs.Words.{wrap-id}
 use Rattle.shape.specs.Shape.{rateOf, countOf, orderOf}
 use Rattle.shape.proofs.Shapes.{rate-le, order-le, frame-le}
@@ -22,6 +23,16 @@ is-key w z k hk f = go (eqb (ofZ w z) k) refl
     go : (t : Bool) → eqb (ofZ w z) k ≡ t → t ≡ eqℤ z (pos k)
     go true e = sym (is w z k hk f (eqb-true (ofZ w z) k e))
     go false e = sym (isnt w z k (eqb-false (ofZ w z) k e))
+
+-- the bits of two words are the same where the numbers are
+pub same-bits : (w : Width) (a b : ℤ) → SFits w a → SFits w b → eqb (ofZ w a) (ofZ w b) ≡ eqℤ a b
+same-bits w a b f g = go (eqb (ofZ w a) (ofZ w b)) refl
+  where
+    go : (t : Bool) → eqb (ofZ w a) (ofZ w b) ≡ t → t ≡ eqℤ a b
+    go true e =
+        let k : a ≡ b = sym (toZ-ofZ f) ∙ ap (toZ w) (eqb-true (ofZ w a) (ofZ w b) e) ∙ toZ-ofZ g in
+        sym (ap (λ (z : ℤ). eqℤ z b) k ∙ eqℤ-refl b)
+    go false e = sym (eqℤ-ne a b (λ p. eqb-false (ofZ w a) (ofZ w b) e (ap (ofZ w) p)))
 
 -- lengths fit a word
 pub small-rate : (k : ℕ) (z : ℤ) → k ≤ 20 → k * rateOf z < 2147483648

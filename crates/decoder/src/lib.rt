@@ -5,17 +5,19 @@ use shape::Rate;
 use word::mul32;
 use word::wide16;
 ghost use mathlib.Core.Path.{_≡_};
-ghost use mathlib.Core.Bool.{_&&_, _||_};
+ghost use mathlib.Core.Bool.{cond, _&&_, _||_};
 ghost use Prim.Native.Nat.{_<_, _≤_};
-ghost use lib.IntN.{pos};
+ghost use lib.IntN.{ℤ, pos};
 ghost use lib.ListN.{length, take, replicate};
 ghost use Rattle.word.specs.Int.{eqℤ};
 ghost use Rattle.shape.specs.Shape.{rateOf, shape};
 ghost use Rattle.decoder.specs.Signals.{signalNumber, signalOf, isType, isVoiced};
 ghost use Rattle.decoder.specs.Ranges.{within, allWithin, onlyIf, isLag, linesFit, decoderFits, tapsHeld, subframesHeld, plcHeld, plcFits, cngFits};
+ghost use Rattle.decoder.specs.Reshape.{reshaped};
 ghost use Rattle.decoder.specs.Rows.{rateRow, sizeRow, historyRow};
 ghost use Rattle.decoder.specs.SetUp.{cngDefault, plcDefault, stateFrom, setUpRefusal, setUp};
 ghost use Rattle.decoder.specs.Played.{playedLength};
+ghost use Rattle.decoder.specs.Claims.{SameShape};
 
 // Comfort noise's part of the state.
 pub struct SilkCNGState {
@@ -116,6 +118,18 @@ pub fn only_if(c: bool, b: bool) -> bool
     ensures { λ r. ⌜ r ≡ onlyIf c b ⌝ }
 {
     if c { b } else { true }
+}
+
+fn chosen(c: bool, a: i32, b: i32) -> i32
+    ensures { λ r. ⌜ r ≡ cond c a b ⌝ }
+{
+    if c { a } else { b }
+}
+
+fn same(a: i32, b: i32) -> bool
+    ensures { λ r. ⌜ r ≡ eqℤ a b ⌝ }
+{
+    a == b
 }
 
 pub fn equals(z: i32, n: usize) -> bool
@@ -224,17 +238,20 @@ fn cng_fits(khz: i32, h: SilkCNGState) -> bool
     only_if(equals(h.fs_khz, shape::rate_of(khz)), held)
 }
 
-// The fields of the decoder's own.
-fn decoder_fits(s: SilkDecoderState) -> bool
-    ensures { λ r. ⌜ r ≡ decoderFits (rateOf (s .«fs_khz»)) s ⌝ }
+// The fields of the decoder's own, as a coming rate leaves them.
+fn decoder_fits(s: SilkDecoderState, khz: i32) -> bool
+    ensures { λ r. ⌜ ((nb : ℤ) → r ≡ decoderFits (rateOf khz) (reshaped khz nb s)) ⌝ }
 {
-    let khz = s.fs_khz;
+    let kept = same(khz, s.fs_khz);
     let lines = s.prev_nlsf_q15;
+    let lag = chosen(kept, s.lag_prev, 100);
+    let kind = chosen(kept, s.prev_signal_type, 0);
+    let first = chosen(kept, s.first_frame_after_reset, 1);
     let mut ok = 0 <= s.loss_cnt;
-    ok = both(ok, only_if(0 < s.loss_cnt, is_lag(khz, s.lag_prev)));
-    ok = both(ok, within(0, 2, s.prev_signal_type));
+    ok = both(ok, only_if(0 < s.loss_cnt, is_lag(khz, lag)));
+    ok = both(ok, within(0, 2, kind));
     ok = both(ok, within(65536, 1686110208, s.prev_gain_q16));
-    ok = both(ok, within(0, 1, s.first_frame_after_reset));
+    ok = both(ok, within(0, 1, first));
     both(ok, lines_fit(khz, &lines))
 }
 
@@ -261,15 +278,14 @@ pub fn size_row(s: SilkDecoderState) -> bool
     !ok
 }
 
-// Row 3.
-pub fn history_row(s: SilkDecoderState) -> bool
-    ensures { λ r. ⌜ r ≡ historyRow (rateOf (s .«fs_khz»)) s ⌝ }
+// Row 3, on the state as a coming rate leaves it.
+pub fn history_row(s: SilkDecoderState, khz: i32) -> bool
+    ensures { λ r. ⌜ ((nb : ℤ) → r ≡ historyRow (rateOf khz) (reshaped khz nb s)) ⌝ }
 {
-    let khz = s.fs_khz;
     let plc = s.s_plc;
     let cng = s.s_cng;
     !both(
-        both(decoder_fits(s), plc_fits(khz, plc)),
+        both(decoder_fits(s, khz), plc_fits(khz, plc)),
         cng_fits(khz, cng),
     )
 }
@@ -383,6 +399,39 @@ fn length_number(n: usize) -> i32
 {
     n as i32
 }
+
+// The state as a coming rate and count of subframes leave it.
+pub fn reshaped(s: SilkDecoderState, khz: i32, nb_subfr: i32) -> SilkDecoderState
+    ensures { λ r. ⌜ r ≡ reshaped khz «nb_subfr» s ⌝ }
+{
+    let frame_length = length_number(shape::frame_length(khz, nb_subfr));
+    let subfr_length = length_number(Rate::subfr_length(khz));
+    let ltp_mem_length = length_number(Rate::ltp_mem_length(khz));
+    let lpc_order = length_number(Rate::lpc_order(khz));
+    let mut t = s;
+    t.nb_subfr = nb_subfr;
+    t.frame_length = frame_length;
+    t.subfr_length = subfr_length;
+    t.ltp_mem_length = ltp_mem_length;
+    t.lpc_order = lpc_order;
+    if khz == s.fs_khz {
+        return t;
+    }
+    let memory = zeros16();
+    let out_buf = samples480();
+    t.s_lpc_q14_buf = memory;
+    t.out_buf = out_buf;
+    t.lag_prev = 100;
+    t.fs_khz = khz;
+    t.first_frame_after_reset = 1;
+    t.prev_signal_type = 0;
+    t
+}
+
+// A coming shape that is the one held changes nothing.
+pub fn same_shape()
+    ensures { λ _. ⌜ SameShape ⌝ }
+{}
 
 // The default state at a rate and a count of subframes.
 fn state_from(khz: i32, nb_subfr: i32) -> SilkDecoderState

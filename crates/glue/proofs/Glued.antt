@@ -1,7 +1,7 @@
 -- Gluing keeps the frame's length, the ranges of what concealment holds, and the types.
 use Prim.Native.Nat.{ℕ, zero, suc, _+_, _^_, _<_, _≤_, zero-le}
 use mathlib.Core.Path.{_≡_, refl, ap, _∙_}
-use mathlib.Core.Bool.{Bool, true, false, cond}
+use mathlib.Core.Bool.{cond}
 use mathlib.Core.List.{List, [], _∷_}
 use native.Mathlib.Omega.{arith}
 use lib.Dec.{ltb}
@@ -19,16 +19,11 @@ use Rattle.sigproc.proofs.Energies.{energy-small}
 use Rattle.decoder.specs.Typed.{Words, TypedPlc, Typed}
 use Rattle.decoder.specs.declared.SilkPLCState.{SilkPLCState}
 use Rattle.decoder.specs.declared.SilkDecoderState.{SilkDecoderState}
-use Rattle.decoder.proofs.Between.{Between}
+use Rattle.decoder.proofs.Between.{either, Between}
 use Rattle.decoder.proofs.Bounds.{PlcHeldBounds, PlcBounds}
 use Rattle.decoder.proofs.Built.{typed-build}
 use Rattle.glue.specs.Glue.{holdEnergy, ramped, startGain, lowered, joined, glueFrames}
 use Rattle.glue.proofs.Shifts.{shift-most}
-
--- what holds of both holds of either
-either : {A : Type 0} (Q : A → Type 0) (b : Bool) {x y : A} → Q x → Q y → Q (cond b x y)
-either Q true h k = h
-either Q false h k = k
 
 -- ---- the frame
 length-ramped : (g s : ℤ) (xs : List ℤ) → length (ramped g s xs) ≡ length xs

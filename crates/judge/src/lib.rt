@@ -20,6 +20,8 @@ use refusal::first;
 use shape::Rate;
 use shape::count_of;
 use shape::frame_length;
+use shape::is_count;
+use shape::is_rate;
 use word::add32;
 use word::wide16;
 ghost use mathlib.Core.Path.{_≡_};
@@ -33,7 +35,7 @@ ghost use Rattle.word.specs.Int.{eqℤ};
 ghost use Rattle.refusal.specs.First.{firstOr, firstOf};
 ghost use Rattle.shape.specs.Shape.{shape, rateOf, countOf};
 ghost use Rattle.decoder.specs.Ranges.{within, linesFit};
-ghost use Rattle.decoder.specs.Rows.{stateRows};
+ghost use Rattle.decoder.specs.Rows.{stateRows, comingRows};
 ghost use Rattle.judge.specs.Taps.{tapSum, tapsFit};
 ghost use Rattle.judge.specs.Rows.{signalRow, gainRow, lagRow, tapsRow, roomRow, lengthRow, paramRows, roomRows, receivedRows, lostRows, frameRows, coreRows, plcReceivedRows, glueRows, cngRows};
 
@@ -145,16 +147,27 @@ fn length_row(lent: usize, n: usize) -> bool
     (n == 0) | (n > 320) | (n > lent)
 }
 
-// Rows 1 to 3, and where none applies, what the rows after them give.
+// Rows 1 to 3 with a coming shape, and where none applies, what the rows after them give.
+fn coming_rows(s: SilkDecoderState, khz: i32, nb_subfr: i32, other: Refusal) -> Refusal
+    ensures { λ r. ⌜ r ≡ firstOr (comingRows khz «nb_subfr» s) other ⌝ }
+{
+    let held_rate = rate_row(s);
+    let rate = !is_rate(khz);
+    let held_size = size_row(s);
+    let size = !is_count(nb_subfr);
+    let history = history_row(s, khz);
+    let from_3 = first(history, Refusal::History, other);
+    let coming_2 = first(size, Refusal::Size, from_3);
+    let from_2 = first(held_size, Refusal::Size, coming_2);
+    let coming_1 = first(rate, Refusal::Rate, from_2);
+    first(held_rate, Refusal::Rate, coming_1)
+}
+
+// Rows 1 to 3 at the shape that a state holds.
 fn state_rows(s: SilkDecoderState, other: Refusal) -> Refusal
     ensures { λ r. ⌜ r ≡ firstOr (stateRows s) other ⌝ }
 {
-    let rate = rate_row(s);
-    let size = size_row(s);
-    let history = history_row(s);
-    let from_3 = first(history, Refusal::History, other);
-    let from_2 = first(size, Refusal::Size, from_3);
-    first(rate, Refusal::Rate, from_2)
+    coming_rows(s, s.fs_khz, s.nb_subfr, other)
 }
 
 // Rows 5 to 8, and what is after them.

@@ -26,7 +26,7 @@ use Rattle.judge.specs.Taps.{tapSum}
 use Rattle.plc.specs.Hold.{plcReady}
 use Rattle.plc.specs.Conceal.{noisePlace, first, wasVoiced, harmGain, filterHeld, coefficients, noiseGain, noiseScale, voiceBy, voice}
 use Rattle.quiet.proofs.Voice.{times, lower, nearer, times-lower, voices-scale, voices-tap}
-use Rattle.quiet.proofs.Loss.{Left, Outer, Same, same}
+use Rattle.quiet.proofs.Loss.{Left, Outer, same}
 
 -- ---- the gains of a loss
 -- at least one loss before

@@ -1,21 +1,21 @@
-use mir.Syntax.{w32}
-use Rattle.word.proofs.Words.{kept}
+use mir.Facts.{toZ-ofZ}
+use Rattle.decoder.specs.Reshape.{reshapedBy, reshaped}
 use Rattle.decoder.specs.Rows.{historyRow}
 use Rattle.decoder.proofs.history_row.Statement.{statement}
 use Rattle.decoder.proofs.history_row.Tie as tie
 
 returns : tie.Need-returns
-unfolding historyRow
-returns c =
+unfolding historyRow reshaped reshapedBy
+returns c nb =
     let d = c .before .before .before .before in
-    let a = d .before .before .before .before in
+    let a = d .before .before .before in
     rw (
       c .both2 .ensures,
       c .before .cng-fits .ensures,
       c .before .before .both .ensures,
       c .before .before .before .plc-fits .ensures,
-      d .decoder-fits .ensures,
-      kept w32 (a .args .s .«fs_khz») (d .before .before .before .struct-told .given .1 .1 .1 .1 .1 .0 .1),
+      d .decoder-fits .ensures nb,
+      toZ-ofZ (a .fits .khz),
     )
 
 pub history-row-spec : {M : Type 1} → statement M
