@@ -1,4 +1,4 @@
-/* Sets a post up, plays one silent frame and a run of losses, and asks for a wrong rate. */
+/* Sets a post up, plays one silent frame and a run of losses, the later ones at another rate, and asks for a wrong one. */
 #include "post.h"
 
 #include <stdio.h>
@@ -24,14 +24,21 @@ int main(void) {
     answer = post_frame(words, POST_WORDS, halves, POST_HALVES, frame, POST_FRAME, coefs, POST_COEFS,
                         pulses, POST_LONGEST_FRAME, output, POST_LONGEST_FRAME);
     frame[POST_FRAME_RECEIVED] = 0;
-    for (int loss = 0; answer == POST_PLAYED && loss < 100; loss++)
+    for (int loss = 0; answer == POST_PLAYED && loss < 100; loss++) {
+        if (loss == 50) {
+            frame[POST_FRAME_RATE] = 8;
+            frame[POST_FRAME_SUBFRAMES] = 2;
+        }
         answer = post_frame(words, POST_WORDS, halves, POST_HALVES, frame, POST_FRAME, coefs, POST_COEFS,
                             pulses, POST_LONGEST_FRAME, output, POST_LONGEST_FRAME);
+    }
     if (answer != POST_PLAYED) {
         fprintf(stderr, "a frame: %d\n", answer);
         return 1;
     }
-    answer = post_set_up(48, 4, words, POST_WORDS, halves, POST_HALVES);
+    frame[POST_FRAME_RATE] = 48;
+    answer = post_frame(words, POST_WORDS, halves, POST_HALVES, frame, POST_FRAME, coefs, POST_COEFS,
+                        pulses, POST_LONGEST_FRAME, output, POST_LONGEST_FRAME);
     printf("100 losses concealed; a rate of 48 kHz is refused by %d\n", answer);
     return answer == POST_RATE ? 0 : 1;
 }

@@ -17,8 +17,9 @@
  * 13 say that they are too short. A call that does not answer 0 writes nothing. One that does leaves
  * what lies past a slice's size, past a frame's samples, past a length or past an order as it was.
  *
- * r is the rate in kHz and n the count of subframes that post_set_up was given; a frame has 5rn
- * samples. The order is 10 at 8 and 12 kHz, 16 at 16 kHz. Qk is a number times 2^k.
+ * r is the rate in kHz and n the count of subframes: in post_frame those that the frame brings, in
+ * the stages alone those that the state holds, which are post_set_up's or the last played frame's. A
+ * frame has 5rn samples. The order is 10 at 8 and 12 kHz, 16 at 16 kHz. Qk is a number times 2^k.
  *
  * words, halves  the state. Plain numbers: they may be copied, stored and compared. Fields have the
  *                names of opus-pure's SilkDecoderState, and one after the other these places:
@@ -64,8 +65,12 @@ enum { POST_LONGEST_FRAME = 320 };
 /* A frame's numbers of 32 bits. */
 enum {
     POST_FRAME_RECEIVED = 0,      /* 0 lost, any other received. The stages do not read it */
-    POST_FRAME_RATE = 1,          /* kHz. Not read yet, as the next: a post keeps the shape of its set-up */
-    POST_FRAME_SUBFRAMES = 2,
+    POST_FRAME_RATE = 1,          /* the coming one, 8, 12 or 16 kHz. Where the state holds another, out_buf
+                                     and s_lpc_q14_buf are cleared, lag_prev is 100, prev_signal_type 0 and
+                                     first_frame_after_reset 1 before the frame is played; all else is kept.
+                                     The stages do not read it */
+    POST_FRAME_SUBFRAMES = 2,     /* the coming count, 2 or 4; another keeps all history. The stages do not
+                                     read it */
     POST_FRAME_SIGNAL = 3,        /* 0 inactive, 1 unvoiced, 2 voiced */
     POST_FRAME_OFFSET = 4,        /* quantisation offset type, 0 or 1 */
     POST_FRAME_INTERPOLATION = 5, /* of the lines, Q2, 0 to 4; 4 is none */
@@ -88,10 +93,12 @@ enum {
 enum post_refusal {
     POST_SHORT = -1,
     POST_PLAYED = 0,
-    POST_RATE = 1,         /* the rate is not 8, 12 or 16 */
-    POST_SIZE = 2,         /* not 2 or 4 subframes, or a length or order in the state is not theirs */
-    POST_HISTORY = 3,      /* a field of the state is outside its range; never after set-up and
-                              whole frames alone (README.md, "What is proved") */
+    POST_RATE = 1,         /* a rate, the frame's or the state's, is not 8, 12 or 16 */
+    POST_SIZE = 2,         /* a count of subframes, the frame's or the state's, is not 2 or 4, or a
+                              length or order in the state is not that of its own shape */
+    POST_HISTORY = 3,      /* a field of the state, as the frame's rate leaves it, is outside its
+                              range; never after set-up and whole frames alone (README.md, "What
+                              is proved") */
     POST_RUN_FULL = 4,     /* the frame is lost, and loss_cnt is 2,147,483,647 */
     POST_SIGNAL = 5,       /* signal not 0 to 2, offset not 0 or 1, or interpolation not 0 to 4 */
     POST_GAIN = 6,         /* a gain is not in 81,920 to 1,686,110,208 */
@@ -110,11 +117,11 @@ enum post_refusal {
 int32_t post_set_up(int32_t rate, int32_t subframes,
                     int32_t *words, size_t words_len, int16_t *halves, size_t halves_len);
 
-/* A frame: 5rn samples into output. A received one may have its first two lags and its first ten
- * taps changed: after the loss of a voiced frame, where it is not voiced itself. Refused by 1 to 3
- * and 5 to 11. A lost one is concealed. Of its frame only the first place is read, and of coefs and
- * pulses nothing, but coefs must have its size; all four lags become the last concealed one.
- * Refused by 1 to 4 and 11. */
+/* A frame: 5rn samples into output; the state then holds its rate and its count of subframes. A
+ * received one may have its first two lags and its first ten taps changed: after the loss of a voiced
+ * frame at the same rate, where it is not voiced itself. Refused by 1 to 3 and 5 to 11. A lost one is
+ * concealed. Of its frame only the first three places are read, and of coefs and pulses nothing, but
+ * coefs must have its size; all four lags become the last concealed one. Refused by 1 to 4 and 11. */
 int32_t post_frame(int32_t *words, size_t words_len, int16_t *halves, size_t halves_len,
                    int32_t *frame, size_t frame_len, int16_t *coefs, size_t coefs_len,
                    const int16_t *pulses, size_t pulses_len, int16_t *output, size_t output_len);

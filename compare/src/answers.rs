@@ -87,6 +87,8 @@ pub fn write(streams: &Path, folder: &Path) -> Result<(), String> {
     for shape in SHAPES {
         list.drawn(shape)?;
     }
+    list.changes()?;
+    list.vectors()?;
     list.rows()?;
     list.short()?;
     list.filters()?;
@@ -250,6 +252,44 @@ impl List {
         Ok(())
     }
 
+    /// Each shape after each, brought by a received frame and by a lost one, and some refused; each list from set-up.
+    fn changes(&mut self) -> Result<(), String> {
+        // In this row, closed to a ring, each of the shapes follows each, itself too.
+        let mut row = vec![];
+        for (at, shape) in SHAPES.into_iter().enumerate() {
+            row.push(shape);
+            SHAPES[at + 1..].iter().for_each(|other| row.extend([shape, *other]));
+        }
+        assert_eq!(row.len(), SHAPES.len() * SHAPES.len());
+        for what in [What::Received, What::Lost] {
+            let draw = &mut Draw::new(SEED, 101, what as u64);
+            self.title("drawn frames of changing shapes");
+            let (rate, subframes) = row[0];
+            self.next(Draft::plain(What::SetUp, rate, subframes).call())?;
+            for (index, shape) in row[1..].iter().chain(&row[..1]).copied().enumerate() {
+                if index % 6 == 5 {
+                    self.frame_at(draw, shape, What::Received, None, true)?;
+                }
+                self.frame_at(draw, shape, what, None, false)?;
+                let dec = self.state();
+                assert_eq!((dec.fs_khz, dec.nb_subfr), shape, "a change of shape is played");
+                if what == What::Lost && index % 3 != 2 {
+                    self.frame_at(draw, shape, What::Received, None, false)?;
+                }
+            }
+        }
+        Ok(())
+    }
+
+    /// The hand-made lists with changes of shape, from set-up.
+    fn vectors(&mut self) -> Result<(), String> {
+        self.title("hand-made lists of changing shapes");
+        rows::VECTORS.iter().flat_map(rows::Vector::calls).try_for_each(|call| match self.next(call)? {
+            0 => Ok(()),
+            answer => Err(format!("call {}: a frame of a hand-made list is refused by {answer}", self.calls)),
+        })
+    }
+
     /// A step of a list: voiced, unvoiced, inactive, lost, a run of losses, or refused.
     fn step(&mut self, draw: &mut Draw, step: char) -> Result<(), String> {
         match step {
@@ -262,10 +302,15 @@ impl List {
         }
     }
 
-    /// A drawn call of a frame or a stage on the state that the last call left.
+    /// A drawn call of a frame or a stage on the state that the last call left, at its shape.
     fn frame(&mut self, draw: &mut Draw, what: What, signal: Option<i8>, broken: bool) -> Result<(), String> {
         let dec = self.state();
-        let (rate, subframes) = (dec.fs_khz, dec.nb_subfr);
+        self.frame_at(draw, (dec.fs_khz, dec.nb_subfr), what, signal, broken)
+    }
+
+    /// The same at a coming shape.
+    fn frame_at(&mut self, draw: &mut Draw, shape: (i32, i32), what: What, signal: Option<i8>, broken: bool) -> Result<(), String> {
+        let (dec, (rate, subframes)) = (self.state(), shape);
         let mut draft = Draft { dec, ..Draft::plain(what, rate, subframes) };
         // Drawn until the type is the wanted one.
         loop {
@@ -284,13 +329,14 @@ impl List {
         self.make(draft.call()).map(|_| ())
     }
 
-    /// The hand-made rows: of calls that play a frame, those that are refused; not the sentences, which the other program writes.
+    /// The hand-made rows: of calls that play a frame, those that are refused or bring another shape; not the sentences, which the other
+    /// program writes.
     fn rows(&mut self) -> Result<(), String> {
         self.title("the ends of the ranges");
-        for row in rows::all().into_iter().filter(|row| row.what != What::Sentence) {
+        for row in rows::alone().into_iter().filter(|row| row.what != What::Sentence) {
             let mut call = row.call();
             let whole = matches!(row.what, What::Received | What::Lost | What::Core | What::PlcLost);
-            if !whole || call::reference(&mut call) != 0 {
+            if !whole || row.changes() || call::reference(&mut call) != 0 {
                 self.make(row.call())?;
             }
         }

@@ -1,5 +1,6 @@
 //! One call of a function: its numbers and the slices that it is lent.
 
+use crate::draw::SHAPES;
 use crate::reference::{self, coef_fields, frame_fields, half_fields, word_fields};
 use given::silk::decoder_structs::{SilkDecoderControl, SilkDecoderState};
 use std::fmt::Write;
@@ -50,6 +51,7 @@ impl What {
 #[derive(Clone)]
 pub struct Draft {
     pub what: What,
+    /// With the subframes the shape of set-up or of the played part, or the one that comes with a frame.
     pub rate: i32,
     pub subframes: i32,
     /// With the frame's signal type, offset type, interpolation and seed in its `indices`.
@@ -87,6 +89,13 @@ impl Draft {
         }
     }
 
+    /// The shape that the frame is played at: the coming one, for a stage or where that is none the held one.
+    pub fn shape(&self) -> (i32, i32) {
+        let coming = (self.rate, self.subframes);
+        let whole = matches!(self.what, What::Received | What::Lost);
+        if whole && SHAPES.contains(&coming) { coming } else { (self.dec.fs_khz, self.dec.nb_subfr) }
+    }
+
     /// The call's numbers and the slices that its function takes.
     pub fn call(mut self) -> Call {
         use What::*;
@@ -118,7 +127,7 @@ impl Draft {
             let small = self.dec.indices;
             let mut numbers = reference::Frame {
                 received: !takes(&[Lost, PlcLost]) as i32,
-                shape: [self.dec.fs_khz, self.dec.nb_subfr],
+                shape: [self.rate, self.subframes],
                 small: [small.signal_type, small.quant_offset_type, small.nlsf_interp_coef_q2, small.seed].map(i32::from),
                 control: self.control,
                 lines: self.lines,

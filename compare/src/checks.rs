@@ -2,6 +2,7 @@
 
 use crate::call::{self, BYTES, Call, Draft, LONG, SHORT, What, place, written};
 use crate::draw::{self, Draw, SHAPES};
+use crate::post::ffi::frame::{RATE, SUBFRAMES};
 use crate::reference::{STOP, STOPPED, read_state};
 use crate::shrink::shrink;
 use crate::{ffi, firmware, rows, streams};
@@ -83,14 +84,17 @@ impl Options {
         true
     }
 
-    /// Lists of received, lost and refused frames, from set-up and from accepted states. Number 3 never comes.
+    /// Lists of received, lost and refused frames with changes of shape, from set-up and from accepted states. Number 3 never comes from
+    /// set-up, and from an accepted state only at another rate.
     pub fn lists(&self) -> bool {
         let (mut answers, mut frames, mut list, mut longest) = (BTreeMap::new(), 0, self.from, 0);
+        let (mut rates, mut counts) = (0, 0);
         while frames < self.count {
             let draw = &mut Draw::new(self.seed, 99, list);
             let (rate, subframes) = draw.pick(&SHAPES);
             let mut draft = Draft::plain(What::Received, rate, subframes);
-            if draw.one_in(3) {
+            let fresh = !draw.one_in(3);
+            if !fresh {
                 draft.dec = draw::state(draw);
             }
             let (mut left, mut lost, mut row, mut counted) = (draw.pick(&[3, 10, 30, 100]), false, 0, 0);
@@ -106,6 +110,7 @@ impl Options {
                 row -= 1;
                 frames += 1;
                 draft.what = if lost { What::Lost } else { What::Received };
+                draw::coming(draw, &mut draft);
                 draw::frame(draw, &mut draft);
                 if lost {
                     draw::any_control(draw, &mut draft.control);
@@ -117,13 +122,16 @@ impl Options {
                 if draw.one_in(32) {
                     draw::break_length(draw, &mut broken);
                 }
+                let broken_rate = broken.rate;
                 let call = broken.call();
                 match self.both(&call) {
-                    Ok((3, _)) => {
+                    Ok((3, _)) if fresh || broken_rate == draft.dec.fs_khz => {
                         println!("lists: list {list} of seed {}: refused by 3", self.seed);
                         return false;
                     }
                     Ok((answer, after)) => {
+                        rates += (answer == 0 && after.frame[RATE] != draft.dec.fs_khz) as u64;
+                        counts += (answer == 0 && after.frame[SUBFRAMES] != draft.dec.nb_subfr) as u64;
                         *answers.entry(answer).or_insert(0) += 1;
                         counted = if lost { counted + (answer == 0) as u64 } else { counted * (answer != 0) as u64 };
                         longest = longest.max(counted);
@@ -137,7 +145,9 @@ impl Options {
             }
             list += 1;
         }
-        println!("lists: {frames} frames in {} lists equal, at most {longest} losses in a row; {}", list - self.from, told(&answers));
+        let lists = list - self.from;
+        println!("lists: {frames} frames in {lists} lists equal, {rates} played at a new rate and {counts} with a new count of subframes");
+        println!("lists: at most {longest} losses in a row; {}", told(&answers));
         true
     }
 

@@ -1,7 +1,7 @@
 //! Every function of the library as the given Rust would have it: document 01's rows, then the Rust's own stage or frame.
 
-use crate::post::{Stability, ffi};
 pub use crate::post::ffi::{ANSWER, COEFS, FRAME, HALVES, TEXT, WORDS};
+use crate::post::{Stability, ffi};
 use given::range_coder::RangeCoder;
 use given::reason;
 use given::silk::cng::silk_cng;
@@ -76,7 +76,7 @@ pub fn half_fields(dec: &mut SilkDecoderState) -> [(&'static str, &mut [i16]); 7
 #[derive(Clone, Default)]
 pub struct Frame {
     pub received: i32,
-    /// Rate and subframes.
+    /// The coming rate and subframes.
     pub shape: [i32; 2],
     /// Signal type, offset type, interpolation and seed.
     pub small: [i32; 4],
@@ -198,9 +198,17 @@ fn judge_sizes(sizes: &[(usize, usize)]) -> Judged {
     unless(TOO_SHORT, sizes.iter().all(|(length, size)| length >= size))
 }
 
-fn judge_shape(rate: i32, subframes: i32) -> Judged {
-    unless(1, [8, 12, 16].contains(&rate))?;
+fn judge_rate(rate: i32) -> Judged {
+    unless(1, [8, 12, 16].contains(&rate))
+}
+
+fn judge_count(subframes: i32) -> Judged {
     unless(2, [2, 4].contains(&subframes))
+}
+
+fn judge_shape(rate: i32, subframes: i32) -> Judged {
+    judge_rate(rate)?;
+    judge_count(subframes)
 }
 
 fn order_at(rate: i32) -> i32 {
@@ -211,11 +219,23 @@ fn none_negative(lines: &[i16]) -> bool {
     lines.iter().all(|line| *line >= 0)
 }
 
-/// Rows 1 to 3.
+/// Rows 1 to 3 of a stage.
 fn judge_state(dec: &SilkDecoderState) -> Judged {
+    judge_rate(dec.fs_khz)?;
+    judge_size(dec)?;
+    judge_history(dec)
+}
+
+/// Row 2 of a state that holds a rate.
+fn judge_size(dec: &SilkDecoderState) -> Judged {
     let (r, n) = (dec.fs_khz, dec.nb_subfr);
-    judge_shape(r, n)?;
-    unless(2, dec.frame_length == 5 * r * n && dec.subfr_length == 5 * r && dec.ltp_mem_length == 20 * r && dec.lpc_order == order_at(r))?;
+    judge_count(n)?;
+    unless(2, dec.frame_length == 5 * r * n && dec.subfr_length == 5 * r && dec.ltp_mem_length == 20 * r && dec.lpc_order == order_at(r))
+}
+
+/// Row 3.
+fn judge_history(dec: &SilkDecoderState) -> Judged {
+    let r = dec.fs_khz;
     let order = dec.lpc_order as usize;
     let gain = 65_536..=1_686_110_208;
     unless(
@@ -251,9 +271,29 @@ fn judge_state(dec: &SilkDecoderState) -> Judged {
     unless(3, cng.fs_khz != r || none_negative(&cng.cng_smth_nlsf_q15[..order]) && (0..=1_686_110_208).contains(&cng.cng_smth_gain_q16))
 }
 
-/// Rows 1 to 4, 11.
+/// Rows 1 to 3 of a whole frame: the held and the coming shape, each by itself, then the state as the coming one leaves it.
+fn judge_coming(dec: &mut SilkDecoderState, [rate, subframes]: [i32; 2]) -> Judged {
+    judge_rate(dec.fs_khz)?;
+    judge_rate(rate)?;
+    judge_size(dec)?;
+    judge_count(subframes)?;
+    change(dec, rate, subframes);
+    judge_history(dec)
+}
+
+/// Another shape in the middle of a call (document 02, Note 1).
+fn change(dec: &mut SilkDecoderState, rate: i32, subframes: i32) {
+    if dec.fs_khz != rate {
+        dec.out_buf.fill(0);
+        dec.s_lpc_q14_buf.fill(0);
+        (dec.lag_prev, dec.prev_signal_type, dec.first_frame_after_reset) = (100, 0, 1);
+        (dec.fs_khz, dec.subfr_length, dec.ltp_mem_length, dec.lpc_order) = (rate, 5 * rate, 20 * rate, order_at(rate));
+    }
+    (dec.nb_subfr, dec.frame_length) = (subframes, 5 * rate * subframes);
+}
+
+/// Rows 4, 11.
 fn judge_lost(dec: &SilkDecoderState, output: &[i16]) -> Judged {
-    judge_state(dec)?;
     unless(4, dec.loss_cnt != 2_147_483_647)?;
     judge_room(11, dec, output)
 }
@@ -330,12 +370,12 @@ pub fn post_frame(words: &mut [i32], halves: &mut [i16], frame: &mut [i32], coef
         let mut dec = read_state(words, halves);
         let brought = read_frame(frame, coefs);
         let mut coder = brought.coder(pulses);
+        judge_coming(&mut dec, brought.shape)?;
         let flag = if brought.received == 0 {
             judge_lost(&dec, output)?;
             FLAG_PACKET_LOST
         } else {
             dec.indices = coder.indices;
-            judge_state(&dec)?;
             judge_description(&dec, &brought.control)?;
             unless(9, none_negative(&brought.lines[..dec.lpc_order as usize]))?;
             judge_room(10, &dec, pulses)?;
@@ -388,6 +428,7 @@ pub fn post_plc_lost(words: &mut [i32], halves: &mut [i16], frame: &mut [i32], o
         let mut dec = read_state(words, halves);
         let before = read_frame(frame, &[]).control;
         let mut description = before.clone();
+        judge_state(&dec)?;
         judge_lost(&dec, output)?;
         run(|| silk_plc(&mut dec, &mut description, output, 1))?;
         write_state(&mut dec, words, halves);

@@ -1,9 +1,9 @@
-//! Hand-made cases: the ends of every range of document 01, and its test bench.
+//! Hand-made cases: the ends of every range of document 01, its test bench, and changes of shape (document 02, Note 1).
 
-use crate::call::{BYTES, Call, Draft, LONG, SHORT, What};
+use crate::call::{self, BYTES, Call, Draft, LONG, SHORT, What};
 use crate::draw::{BETWEEN_10, BETWEEN_16};
 use crate::post::ffi::frame::{GAINS, INTERPOLATION, LAGS, OFFSET, RATE, RECEIVED, SEED, SIGNAL, SUBFRAMES};
-use crate::reference::read_state;
+use crate::reference::{read_state, set_up};
 use What::*;
 use given::silk::decoder_structs::SilkDecoderState;
 
@@ -18,6 +18,11 @@ pub struct Row {
 impl Row {
     pub fn call(&self) -> Call {
         self.draft.clone().call()
+    }
+
+    /// The frame brings another shape than the held one.
+    pub fn changes(&self) -> bool {
+        self.draft.shape() != (self.draft.dec.fs_khz, self.draft.dec.nb_subfr)
     }
 
     /// The answer is the row's; refused, everything is unchanged.
@@ -71,12 +76,20 @@ impl Table {
 }
 
 pub fn all() -> Vec<Row> {
+    let mut table = Table(alone());
+    vectors(&mut table);
+    table.0
+}
+
+/// The rows that are no list's last frame.
+pub fn alone() -> Vec<Row> {
     let mut table = Table(vec![]);
     shapes(&mut table);
     states(&mut table);
     descriptions(&mut table);
     lengths(&mut table);
     bench(&mut table);
+    changes(&mut table);
     table.0
 }
 
@@ -240,7 +253,7 @@ fn descriptions(t: &mut Table) {
         d.numbers.push((RECEIVED, 0));
         d.pulses.clear();
     });
-    for what in [Received, Lost, Core, PlcReceived, PlcLost, Noise] {
+    for what in [Core, PlcReceived, PlcLost, Noise] {
         t.add(what, "a shape that is none, which is not read", 0, |d| d.numbers.extend([(RATE, 9), (SUBFRAMES, 3)]));
     }
     for what in [Core, PlcReceived, PlcLost, Noise] {
@@ -450,4 +463,349 @@ fn bench(t: &mut Table) {
         (d.length, d.output) = (1, vec![2]);
     };
     t.outcome(Glue, "a gain above one, one sample", 0, gain, |s, c| c.output == [8] && s.s_plc.conc_energy == 1);
+}
+
+// Document 02, Note 1.
+
+/// A voiced frame with a pulse of 3 at every 16th place.
+fn voiced(rate: i32, subframes: i32) -> Draft {
+    let mut d = Draft::plain(Received, rate, subframes);
+    (d.dec.indices.signal_type, d.dec.indices.nlsf_interp_coef_q2, d.dec.indices.seed) = (2, 4, 1);
+    (d.control.pitch_l, d.control.gains_q16, d.control.ltp_scale_q14) = ([10 * rate; 4], [1 << 24; 4], 15_565);
+    d.control.ltp_coef_q14.chunks_mut(5).for_each(|taps| taps[2] = 8_192);
+    d.control.pred_coef_q12.iter_mut().for_each(|row| row[0] = 2_048);
+    (0..16).for_each(|i| d.lines[i] = 1_900 * (i as i16 + 1));
+    d.pulses.iter_mut().step_by(16).for_each(|pulse| *pulse = 3);
+    d
+}
+
+/// A frame of a list: `voiced` or lost, at a coming shape.
+type Step = (What, i32, i32);
+
+fn step((what, rate, subframes): Step) -> Draft {
+    if what == Received { voiced(rate, subframes) } else { Draft::plain(Lost, rate, subframes) }
+}
+
+/// A frame on another state.
+fn on(dec: SilkDecoderState, mut draft: Draft) -> Draft {
+    let indices = draft.dec.indices;
+    draft.dec = SilkDecoderState { indices, ..dec };
+    draft
+}
+
+/// The state after a set-up and frames that are all played.
+fn after((rate, subframes): (i32, i32), steps: &[Step]) -> SilkDecoderState {
+    steps.iter().fold(set_up(rate, subframes), |dec, next| {
+        let mut call = on(dec, step(*next)).call();
+        assert_eq!(call::reference(&mut call), 0, "a vector's frame is played");
+        read_state(&call.words, &call.halves)
+    })
+}
+
+/// A list from set-up, and what holds after its last frame.
+pub struct Vector {
+    label: &'static str,
+    pub set_up: (i32, i32),
+    pub steps: &'static [Step],
+    holds: fn(&SilkDecoderState, &Call) -> bool,
+}
+
+/// The first samples, the last, the largest in size, and the sum.
+fn heard(c: &Call) -> ([i16; 8], i16, u16, i32) {
+    let largest = c.output.iter().map(|sample| sample.unsigned_abs()).max().unwrap();
+    (c.output[..8].try_into().unwrap(), *c.output.last().unwrap(), largest, c.output.iter().map(|sample| *sample as i32).sum())
+}
+
+/// `lag_prev`, the previous type, the first-frame flag and the count of losses.
+fn kept(s: &SilkDecoderState) -> (i32, i32, i32, i32) {
+    (s.lag_prev, s.prev_signal_type, s.first_frame_after_reset, s.loss_cnt)
+}
+
+/// Rate, subframes and their length, pitch, middle tap, noise scale, later gain, first coefficient and energy of concealment.
+fn concealment(s: &SilkDecoderState) -> ([i32; 4], i16, i16, i32, i16, i32) {
+    let plc = &s.s_plc;
+    let shape = [plc.fs_khz, plc.nb_subfr, plc.subfr_length, plc.pitch_l_q8];
+    (shape, plc.ltp_coef_q14[2], plc.rand_scale_q14, plc.prev_gain_q16[1], plc.prev_lpc_q12[0], plc.conc_energy)
+}
+
+/// The held shape: rate, subframes, frame, subframe, history and order.
+fn shape(s: &SilkDecoderState) -> [i32; 6] {
+    [s.fs_khz, s.nb_subfr, s.frame_length, s.subfr_length, s.ltp_mem_length, s.lpc_order]
+}
+
+pub const VECTORS: [Vector; 9] = [
+    Vector {
+        label: "12, 4",
+        set_up: (12, 4),
+        steps: &[(Received, 12, 4)],
+        holds: |s, c| {
+            heard(c) == ([757, 388, 203, 95, 41, 30, 24, 5], 3, 765, 3_305)
+                && kept(s) == (120, 2, 0, 0)
+                && concealment(s) == ([12, 4, 60, 30_720], 11_464, 0, 1 << 24, 2_048, 0)
+                && s.prev_nlsf_q15[9..] == [19_000, 0, 0, 0, 0, 0, 0]
+        },
+    },
+    Vector {
+        label: "12, 4; lost at 12, 2",
+        set_up: (12, 4),
+        steps: &[(Received, 12, 4), (Lost, 12, 2)],
+        holds: |s, c| {
+            heard(c) == ([261, 139, 71, 38, 15, 20, 12, 2], -11, 537, -101)
+                && shape(s) == [12, 2, 120, 60, 240, 10]
+                && kept(s) == (122, 2, 0, 1)
+                && concealment(s) == ([12, 4, 60, 31_337], 11_235, 4_218, 1 << 24, 2_028, 3_735_631)
+                && c.frame[LAGS..GAINS] == [122; 4]
+        },
+    },
+    Vector {
+        label: "12, 4; lost at 12, 4",
+        set_up: (12, 4),
+        steps: &[(Received, 12, 4), (Lost, 12, 4)],
+        holds: |s, c| {
+            heard(c) == ([261, 139, 71, 38, 15, 20, 12, 2], -85, 537, -2_294)
+                && kept(s) == (125, 2, 0, 1)
+                && concealment(s) == ([12, 4, 60, 31_966], 11_010, 3_806, 1 << 24, 2_028, 6_337_560)
+                && c.frame[LAGS..GAINS] == [125; 4]
+        },
+    },
+    Vector {
+        label: "12, 4; lost at 16, 2",
+        set_up: (12, 4),
+        steps: &[(Received, 12, 4), (Lost, 16, 2)],
+        holds: |s, c| {
+            heard(c) == ([0; 8], 0, 5, 19)
+                && shape(s) == [16, 2, 160, 80, 320, 16]
+                && kept(s) == (82, 0, 1, 1)
+                && concealment(s) == ([16, 2, 20, 20_890], 11_235, 16_057, 65_536, 0, 65)
+                && s.s_plc.prev_lpc_q12 == [0; 16]
+                && (s.s_cng.fs_khz, s.s_cng.cng_smth_nlsf_q15[0], s.s_cng.cng_smth_nlsf_q15[15]) == (16, 1_927, 30_832)
+                && s.prev_gain_q16 == 1 << 24
+                && c.frame[LAGS..GAINS] == [82; 4]
+        },
+    },
+    Vector {
+        label: "12, 4; lost at 16, 2; 16, 2",
+        set_up: (12, 4),
+        steps: &[(Received, 12, 4), (Lost, 16, 2), (Received, 16, 2)],
+        holds: |s, c| {
+            heard(c) == ([2, 10, 10, 7, 4, 3, 3, 1], 9, 764, 637)
+                && kept(s) == (160, 2, 0, 0)
+                && concealment(s) == ([16, 2, 80, 40_960], 11_464, 16_057, 1 << 24, 2_048, 65)
+                && s.prev_nlsf_q15[15] == 30_400
+        },
+    },
+    Vector {
+        label: "12, 4; lost at 16, 2; lost at 12, 4",
+        set_up: (12, 4),
+        steps: &[(Received, 12, 4), (Lost, 16, 2), (Lost, 12, 4)],
+        holds: |s, c| {
+            heard(c) == ([0, 3, 0, 0, 0, 0, 0, 0], 0, 3, 10)
+                && shape(s) == [12, 4, 240, 60, 240, 10]
+                && kept(s) == (125, 0, 1, 2)
+                && concealment(s) == ([12, 2, 20, 31_966], 9_150, 10_533, 65_536, 0, 154)
+                && s.s_cng.cng_smth_nlsf_q15[9..11] == [29_780, 21_197]
+        },
+    },
+    Vector {
+        label: "12, 4; 8, 4",
+        set_up: (12, 4),
+        steps: &[(Received, 12, 4), (Received, 8, 4)],
+        holds: |s, c| {
+            heard(c) == ([757, 388, 203, 95, 41, 30, 24, 5], 4, 1_138, 5_402)
+                && shape(s) == [8, 4, 160, 40, 160, 10]
+                && kept(s) == (80, 2, 0, 0)
+                && concealment(s) == ([8, 4, 40, 20_480], 11_464, 0, 1 << 24, 2_048, 0)
+        },
+    },
+    Vector {
+        label: "12, 4; 16, 4",
+        set_up: (12, 4),
+        steps: &[(Received, 12, 4), (Received, 16, 4)],
+        holds: |s, c| {
+            heard(c) == ([758, 389, 205, 96, 42, 31, 26, 7], 18, 1_143, 2_470)
+                && shape(s) == [16, 4, 320, 80, 320, 16]
+                && kept(s) == (160, 2, 0, 0)
+                && concealment(s) == ([16, 4, 80, 40_960], 11_464, 0, 1 << 24, 2_048, 0)
+        },
+    },
+    Vector {
+        label: "16, 4; lost at 16, 2",
+        set_up: (16, 4),
+        steps: &[(Received, 16, 4), (Lost, 16, 2)],
+        holds: |s, c| {
+            heard(c) == ([-250, -122, -58, -32, -18, 5, 5, 11], 8, 806, 478)
+                && kept(s) == (163, 2, 0, 1)
+                && concealment(s) == ([16, 4, 80, 41_782], 11_235, 4_218, 1 << 24, 2_028, 4_249_872)
+        },
+    },
+];
+
+impl Vector {
+    /// The list's calls, each of which is given the state that the one before left.
+    pub fn calls(&self) -> Vec<Call> {
+        let set_up = Draft::plain(SetUp, self.set_up.0, self.set_up.1).call();
+        std::iter::once(set_up).chain(self.steps.iter().map(|next| step(*next).call())).collect()
+    }
+}
+
+fn vectors(t: &mut Table) {
+    for vector in VECTORS {
+        let (last, before) = vector.steps.split_last().unwrap();
+        let draft = on(after(vector.set_up, before), step(*last));
+        t.0.push(Row { label: vector.label.into(), what: last.0, draft, answer: 0, holds: vector.holds });
+    }
+}
+
+/// A plain call that brings another shape; at 16 kHz with 4 subframes it lends enough for any.
+fn bring(d: &mut Draft, rate: i32, subframes: i32) {
+    (d.rate, d.subframes) = (rate, subframes);
+}
+
+/// The same on the state after a voiced frame of 12 kHz and 4 subframes.
+fn at_12(d: &mut Draft, rate: i32, subframes: i32) {
+    d.dec = after((12, 4), &[(Received, 12, 4)]);
+    bring(d, rate, subframes);
+}
+
+/// A voiced frame on another state.
+fn voiced_on(d: &mut Draft, dec: SilkDecoderState, rate: i32, subframes: i32) {
+    *d = on(dec, voiced(rate, subframes));
+}
+
+fn changes(t: &mut Table) {
+    for what in [Received, Lost] {
+        t.add(what, "held 16, 4, coming 9, 3", 1, |d| bring(d, 9, 3));
+        t.add(what, "held 16, 4, coming 9, 4", 1, |d| bring(d, 9, 4));
+        t.add(what, "held 16, 4, coming 16, 3", 2, |d| bring(d, 16, 3));
+        t.add(what, "held 16, 4, coming 8, 0", 2, |d| bring(d, 8, 0));
+        t.add(what, "held 16, 4, coming 0, 2", 1, |d| bring(d, 0, 2));
+        t.add(what, "held 3 subframes, coming 9, 2", 1, |d| {
+            d.dec.nb_subfr = 3;
+            bring(d, 9, 2);
+        });
+        t.add(what, "held 3 subframes, coming 16, 2", 2, |d| {
+            d.dec.nb_subfr = 3;
+            bring(d, 16, 2);
+        });
+        t.add(what, "held rate 9, coming 16, 4", 1, |d| d.dec.fs_khz = 9);
+        t.add(what, "held rate 9, coming 16, 3", 1, |d| {
+            d.dec.fs_khz = 9;
+            bring(d, 16, 3);
+        });
+        t.add(what, "held frame length 321, coming 16, 2", 2, |d| {
+            d.dec.frame_length = 321;
+            bring(d, 16, 2);
+        });
+        t.add(what, "held frame length 321, coming 8, 2", 2, |d| {
+            d.dec.frame_length = 321;
+            bring(d, 8, 2);
+        });
+        t.add(what, "held frame length of the coming shape", 2, |d| {
+            d.dec.frame_length = 80;
+            bring(d, 8, 2);
+        });
+        t.add(what, "coming size before history", 2, |d| {
+            d.dec.loss_cnt = -1;
+            bring(d, 16, 3);
+        });
+    }
+    t.add(Lost, "type 3, coming 12, 4", 3, |d| {
+        at_12(d, 12, 4);
+        d.dec.prev_signal_type = 3;
+    });
+    t.add(Lost, "type 3, coming 12, 2", 3, |d| {
+        at_12(d, 12, 2);
+        d.dec.prev_signal_type = 3;
+    });
+    t.add(Lost, "type 3, coming 16, 4", 0, |d| {
+        at_12(d, 16, 4);
+        d.dec.prev_signal_type = 3;
+    });
+    t.add(Lost, "flag 2, coming 12, 4", 3, |d| {
+        at_12(d, 12, 4);
+        d.dec.first_frame_after_reset = 2;
+    });
+    t.add(Lost, "flag 2, coming 8, 4", 0, |d| {
+        at_12(d, 8, 4);
+        d.dec.first_frame_after_reset = 2;
+    });
+    t.add(Lost, "one loss, lag 23, coming 12, 4", 3, |d| {
+        at_12(d, 12, 4);
+        (d.dec.loss_cnt, d.dec.lag_prev) = (1, 23);
+    });
+    t.add(Lost, "one loss, lag 23, coming 16, 4", 0, |d| {
+        at_12(d, 16, 4);
+        (d.dec.loss_cnt, d.dec.lag_prev) = (1, 23);
+    });
+    fn line(d: &mut Draft, rate: i32) {
+        at_12(d, rate, 4);
+        d.dec.prev_nlsf_q15[12] = -1;
+    }
+    t.add(Lost, "line 12 -1, coming 12, 4", 0, |d| line(d, 12));
+    t.add(Lost, "line 12 -1, coming 8, 4", 0, |d| line(d, 8));
+    t.add(Lost, "line 12 -1, coming 16, 4", 3, |d| line(d, 16));
+    fn pitch(d: &mut Draft, rate: i32) {
+        at_12(d, rate, 4);
+        (d.dec.s_plc.fs_khz, d.dec.s_plc.pitch_l_q8) = (16, 8_191);
+    }
+    t.add(Lost, "concealment of 16 with pitch 8,191, coming 12, 4", 0, |d| pitch(d, 12));
+    t.add(Lost, "concealment of 16 with pitch 8,191, coming 8, 4", 0, |d| pitch(d, 8));
+    t.add(Lost, "concealment of 16 with pitch 8,191, coming 16, 4", 3, |d| pitch(d, 16));
+    fn gain(d: &mut Draft, rate: i32) {
+        at_12(d, rate, 4);
+        (d.dec.s_cng.fs_khz, d.dec.s_cng.cng_smth_gain_q16) = (16, -1);
+    }
+    t.add(Lost, "noise of 16 with gain -1, coming 12, 4", 0, |d| gain(d, 12));
+    t.add(Lost, "noise of 16 with gain -1, coming 16, 4", 3, |d| gain(d, 16));
+    t.add(Lost, "run full, coming 16, 2", 4, |d| {
+        at_12(d, 16, 2);
+        d.dec.loss_cnt = i32::MAX;
+    });
+    t.add(Lost, "run full, coming 16, 3", 2, |d| {
+        at_12(d, 16, 3);
+        d.dec.loss_cnt = i32::MAX;
+    });
+    fn lent(d: &mut Draft, held: i32, coming: (i32, i32), lent: usize) {
+        d.dec = set_up(16, held);
+        bring(d, coming.0, coming.1);
+        d.output.truncate(lent);
+    }
+    t.add(Lost, "held 16, 4, coming 16, 2, 160 samples", 0, |d| lent(d, 4, (16, 2), 160));
+    t.add(Lost, "held 16, 4, coming 16, 4, 319 samples", 11, |d| lent(d, 4, (16, 4), 319));
+    t.add(Lost, "held 16, 2, coming 16, 4, 160 samples", 11, |d| lent(d, 2, (16, 4), 160));
+    t.add(Lost, "held 16, 2, coming 8, 4, 160 samples", 0, |d| lent(d, 2, (8, 4), 160));
+    let past = |d: &mut Draft| {
+        bring(d, 8, 2);
+        d.output.fill(9);
+    };
+    t.outcome(Lost, "samples past the coming frame", 0, past, |_, c| c.output[80..] == [9; 240]);
+    t.add(Received, "line 12 -1, held 12, 4, coming 16, 4", 9, |d| {
+        voiced_on(d, after((12, 4), &[(Received, 12, 4)]), 16, 4);
+        d.lines[12] = -1;
+    });
+    t.add(Received, "line 12 -1, held 16, 4, coming 12, 4", 0, |d| {
+        voiced_on(d, set_up(16, 4), 12, 4);
+        d.lines[12] = -1;
+    });
+    t.add(Received, "gain 3 is 0, held 16, 2, coming 16, 4", 6, |d| {
+        voiced_on(d, set_up(16, 2), 16, 4);
+        d.control.gains_q16[3] = 0;
+    });
+    t.add(Received, "gain 3 is 0, held 16, 4, coming 16, 2", 0, |d| {
+        voiced_on(d, set_up(16, 4), 16, 2);
+        d.control.gains_q16[3] = 0;
+    });
+    t.add(Received, "lag 250, held 16, 4, coming 12, 4", 7, |d| {
+        voiced_on(d, set_up(16, 4), 12, 4);
+        d.control.pitch_l[0] = 250;
+    });
+    t.add(Received, "lag 250, held 12, 4, coming 16, 4", 0, |d| {
+        voiced_on(d, after((12, 4), &[(Received, 12, 4)]), 16, 4);
+        d.control.pitch_l[0] = 250;
+    });
+    t.add(Received, "held 16, 2, coming 16, 4, 160 pulses", 10, |d| {
+        voiced_on(d, set_up(16, 2), 16, 4);
+        d.pulses.truncate(160);
+    });
+    t.add(Received, "held 16, 4, coming 16, 2, 160 pulses", 0, |d| voiced_on(d, set_up(16, 4), 16, 2));
 }

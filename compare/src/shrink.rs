@@ -2,7 +2,8 @@
 
 use crate::call::{BYTES, Call, Draft, LONG, SHORT};
 use crate::draw::{Number, SHAPES};
-use crate::reference::{HALVES, WORDS, read_state, write_state};
+use crate::post::ffi::frame::{RATE, SUBFRAMES};
+use crate::reference::{FRAME, HALVES, WORDS, read_state, write_state};
 
 /// The smallest failing call found, and the plain call that it is told apart from.
 pub fn shrink(mut call: Call, fails: impl Fn(&Call) -> bool) -> (Call, Call) {
@@ -32,11 +33,24 @@ fn plain_like(call: &Call) -> Call {
     Draft::plain(call.what, rate, subframes).call()
 }
 
-/// Takes the first smaller shape at which the call fails too.
+/// Takes the first smaller shape at which the call fails too, then the first smaller one that its frame brings.
 fn reshape(call: &mut Call, fails: &impl Fn(&Call) -> bool) -> bool {
-    let Some((rate, subframes)) = shape(call) else { return false };
-    let smaller = SHAPES.into_iter().filter(|(r, n)| r * n < rate * subframes || r * n == rate * subframes && *r < rate);
-    smaller.into_iter().any(|(rate, subframes)| keep(call, reshaped(call, rate, subframes), fails))
+    let Some(held) = shape(call) else { return false };
+    let smaller = |(rate, subframes): (i32, i32)| {
+        SHAPES.into_iter().filter(move |(r, n)| r * n < rate * subframes || r * n == rate * subframes && *r < rate)
+    };
+    let changed = smaller(held).any(|(rate, subframes)| keep(call, reshaped(call, rate, subframes), fails));
+    let Some(brought) = coming(call).filter(|brought| SHAPES.contains(brought)) else { return changed };
+    smaller(brought).any(|(rate, subframes)| {
+        let mut trial = call.clone();
+        (trial.frame[RATE], trial.frame[SUBFRAMES]) = (rate, subframes);
+        keep(call, trial, fails)
+    }) || changed
+}
+
+/// The shape that a call's frame brings.
+fn coming(call: &Call) -> Option<(i32, i32)> {
+    (call.frame.len() >= FRAME).then(|| (call.frame[RATE], call.frame[SUBFRAMES]))
 }
 
 /// The shape that a call's state holds, or the one that it names.
@@ -52,9 +66,13 @@ fn shape(call: &Call) -> Option<(i32, i32)> {
     SHAPES.contains(&held).then_some(held)
 }
 
-/// The same call at another shape.
+/// The same call at another shape, which its frame brings too if it brought the held one.
 fn reshaped(call: &Call, rate: i32, subframes: i32) -> Call {
+    let unchanged = coming(call).is_some() && coming(call) == shape(call);
     let mut call = call.clone();
+    if unchanged {
+        (call.frame[RATE], call.frame[SUBFRAMES]) = (rate, subframes);
+    }
     (call.rate, call.subframes) = (rate, subframes);
     if call.words.len() >= WORDS && call.halves.len() >= HALVES {
         let mut dec = read_state(&call.words, &call.halves);

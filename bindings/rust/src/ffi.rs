@@ -17,9 +17,9 @@ pub const TEXT: usize = 64;
 pub mod frame {
     /// 0 lost, any other received.
     pub const RECEIVED: usize = 0;
-    /// The rate in kHz.
+    /// The coming rate in kHz. The stages do not read it.
     pub const RATE: usize = 1;
-    /// The count of subframes.
+    /// The coming count of subframes. The stages do not read it.
     pub const SUBFRAMES: usize = 2;
     /// The signal type.
     pub const SIGNAL: usize = 3;

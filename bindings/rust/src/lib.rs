@@ -34,15 +34,15 @@ pub use filters::{Sentence, Stability, filter, sentence, stability};
 
 use core::fmt;
 
-/// Why a call was turned down, r being the rate in kHz and n the count of subframes.
+/// Why a call was turned down, r being the rate in kHz and n the count of subframes: of a whole frame its own, else those that the post holds.
 #[derive(Clone, Copy, PartialEq, Eq, Debug)]
 #[repr(i32)]
 pub enum Refusal {
-    /// The rate is not 8, 12 or 16 kHz.
+    /// A rate, the frame's or the state's, is not 8, 12 or 16 kHz.
     Rate = 1,
-    /// There are not 2 or 4 subframes, or a length or order in the state disagrees with the shape.
+    /// A count of subframes, the frame's or the state's, is not 2 or 4, or a length or order in the state disagrees with its shape.
     Size = 2,
-    /// A state field is outside its range.
+    /// A state field is outside its range. For a whole frame the state is judged as the frame's shape leaves it.
     History = 3,
     /// The frame is lost and the count of losses is 2,147,483,647.
     RunFull = 4,
@@ -228,12 +228,13 @@ impl Post {
         (&self.words, &self.halves)
     }
 
-    /// The shape that the post holds.
+    /// The shape that the post holds: that of the last frame that was played, or of its set-up. The stages alone go by it.
     pub fn shape(&self) -> Shape {
         Shape { rate: self.words[RATE], subframes: self.words[SUBFRAMES] }
     }
 
-    /// Plays a received frame into the first samples of `output`. Its shape is not read yet: a post keeps that of its set-up.
+    /// Plays a received frame into the first samples of `output`. The frame brings its shape, which the post then holds: a new count of
+    /// subframes keeps all history, a new rate forgets the signal before it.
     pub fn received(
         &mut self, shape: Shape, params: Params, description: &mut Description, pulses: &[i16], output: &mut [i16],
     ) -> Result<(), Refusal> {
@@ -243,7 +244,7 @@ impl Post {
         Ok(())
     }
 
-    /// Conceals a lost frame; the four lags of the description become the last one. Its shape is not read yet.
+    /// Conceals a lost frame; the four lags of the description become the last one. It brings its shape as a received one does.
     pub fn lost(&mut self, shape: Shape, description: &mut Description, output: &mut [i16]) -> Result<(), Refusal> {
         let mut numbers = Numbers::of(shape, None, description);
         answered(ffi::frame(&mut self.words, &mut self.halves, &mut numbers.frame, &mut numbers.coefs, &[], output))?;

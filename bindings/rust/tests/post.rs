@@ -72,6 +72,21 @@ fn a_frame_and_its_loss() {
 }
 
 #[test]
+fn a_change_of_shape() {
+    let mut post = Post::set_up(NARROW).unwrap();
+    let (mut output, mut description) = ([1; 400], plain());
+    for (shape, why) in [(Shape { rate: 9, subframes: 3 }, Refusal::Rate), (Shape { subframes: 3, ..WIDE }, Refusal::Size)] {
+        assert_eq!(post.lost(shape, &mut description, &mut output), Err(why));
+        assert_eq!((post.shape(), output), (NARROW, [1; 400]));
+    }
+    post.lost(WIDE, &mut description, &mut output).unwrap();
+    assert_eq!((post.shape(), &output[320..]), (WIDE, &[1; 80][..]));
+    assert_eq!(post.received(WIDE, Params::default(), &mut description, &[0; 80], &mut output), Err(Refusal::Pulses));
+    post.received(NARROW, Params::default(), &mut description, &[0; 80], &mut output[..80]).unwrap();
+    assert_eq!(post.shape(), NARROW);
+}
+
+#[test]
 fn stages_alone() {
     let mut post = Post::set_up(NARROW).unwrap();
     assert_eq!(post.shape(), NARROW);

@@ -1,7 +1,7 @@
 -- Comfort noise keeps its part of the state in range, the types, and the frame's length.
 use Prim.Native.Nat.{ℕ, zero, suc, _-_, _*_, _<_, _≤_}
-use mathlib.Core.Path.{_≡_, _∙_}
-use mathlib.Core.Bool.{true}
+use mathlib.Core.Path.{_≡_, refl, sym, _∙_}
+use mathlib.Core.Bool.{Bool, true, false, cond}
 use mathlib.Core.List.{List, [], _∷_, _++_}
 use native.Mathlib.Omega.{arith}
 use lib.IntN.{ℤ, pos, _+ℤ_, _-ℤ_}
@@ -12,7 +12,7 @@ use mir.Val.{SFits}
 use Rattle.word.specs.Int.{eqℤ, wrap32}
 use Rattle.word.specs.Tabulate.{tabulate}
 use Rattle.word.proofs.Lists.{length-tabulate, getD-tabulate}
-use Rattle.word.proofs.Order.{sat16-fits}
+use Rattle.word.proofs.Order.{eqℤ-true, sat16-fits}
 use Rattle.word.proofs.Sizes.{abs-fits}
 use Rattle.word.proofs.Words.{wrap-fits}
 use Rattle.macros.specs.Fixed.{smulww, smulwb}
@@ -221,3 +221,20 @@ added-words m n frame signal gain l h = table-words m n _ frame l (λ i k. sat16
 pub comfort-frame : (s : SilkDecoderState) (gains : List ℤ) (m n : ℕ) (frame : List ℤ) → n ≤ m → Words w16 m frame → Words w16 m (comfortNoise (shapeOf s) s gains n frame .frame)
 comfort-frame s gains m n frame l h =
     by-cases (shapeOf s) s gains n frame (λ (x : Framed). Words w16 m (x .frame)) (λ e. h) (λ gain. added-words m n frame _ gain l h)
+
+-- noise is then held for the frame's rate
+ready-rate : (r : ℕ) (h : SilkCNGState) → cngReady r h .«fs_khz» ≡ pos r
+unfolding cngReady cngReset
+ready-rate r h = go (eqℤ (pos r) (h .«fs_khz»)) refl
+  where
+    go : (b : Bool) → eqℤ (pos r) (h .«fs_khz») ≡ b → cond b h (cngReset r h) .«fs_khz» ≡ pos r
+    go true e = sym (eqℤ-true (pos r) (h .«fs_khz») e)
+    go false e = refl
+
+pub comfort-rate : (p : Shape) (s : SilkDecoderState) (gains : List ℤ) (n : ℕ) (frame : List ℤ) → comfortNoise p s gains n frame .state .«s_cng» .«fs_khz» ≡ pos (p .rate)
+unfolding silenced sounded tracked
+comfort-rate p s gains n frame =
+    let e = ready-rate (p .rate) (s .«s_cng») in
+    by-cases p s gains n frame (λ (x : Framed). x .state .«s_cng» .«fs_khz» ≡ pos (p .rate))
+    (λ l. either (λ (h : SilkCNGState). h .«fs_khz» ≡ pos (p .rate)) (eqℤ (s .«prev_signal_type») (pos 0)) e e)
+    (λ gain. e)

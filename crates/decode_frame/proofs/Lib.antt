@@ -3,5 +3,6 @@ pub mod Answers
 pub mod Finishing
 pub mod Heard
 pub mod Kept
+pub mod Owned
 pub mod Noised
 pub mod Standard

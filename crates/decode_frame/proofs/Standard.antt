@@ -5,8 +5,8 @@ use lib.IntN.{ℤ}
 use lib.ListN.{length}
 use Rattle.refusal.specs.Refusals.{refusalNumber, ifAccepted}
 use Rattle.refusal.specs.declared.Refusal.{Refusal}
-use Rattle.shape.specs.Shape.{Shape}
-use Rattle.decoder.specs.State.{shapeOf}
+use Rattle.shape.specs.Shape.{Shape, shape}
+use Rattle.decoder.specs.Reshape.{reshaped}
 use Rattle.decoder.specs.declared.SilkDecoderState.{SilkDecoderState}
 use Rattle.decoder.specs.declared.SilkDecoderControl.{SilkDecoderControl}
 use Rattle.decoder.specs.declared.Params.{Params}
@@ -30,7 +30,9 @@ received-standard p s q c rows lines pulses b =
 
 pub frame-standard : FrameStandard
 unfolding frameAnswer frameRefusal
-frame-standard s q c rows lines pulses output e =
-    let f = received-fits s q c lines (length pulses) (length output) (ap refusalNumber e) in
-    let new = wholeFrame (shapeOf s) s (Received q) c rows lines pulses .state in
-    subst (HoldsStandard (shapeOf s) q pulses) (sym (ap (λ (r : Refusal). ifAccepted r new s) e)) (received-standard (shapeOf s) s q c rows lines pulses (f .core .params .offset))
+frame-standard s khz nb q c rows lines pulses output e =
+    let t = reshaped khz nb s in
+    let p = shape khz nb in
+    let f = received-fits khz nb s q c lines (length pulses) (length output) (ap refusalNumber e) in
+    let new = wholeFrame p t (Received q) c rows lines pulses .state in
+    subst (HoldsStandard p q pulses) (sym (ap (λ (r : Refusal). ifAccepted r new s) e)) (received-standard p t q c rows lines pulses (f .core .params .offset))

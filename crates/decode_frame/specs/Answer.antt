@@ -6,20 +6,21 @@ use Rattle.refusal.specs.First.{firstOf}
 use Rattle.refusal.specs.Refusals.{ifAccepted}
 use Rattle.refusal.specs.declared.Refusal.{Refusal}
 use Rattle.shape.specs.Shape.{frameLength}
-use Rattle.decoder.specs.State.{shapeOf}
 use Rattle.decoder.specs.Outcome.{Outcome}
 use Rattle.decoder.specs.declared.SilkDecoderState.{SilkDecoderState}
 use Rattle.judge.specs.Rows.{frameRows}
 use Rattle.decode_frame.specs.WholeFrame.{wholeFrame}
-use Rattle.decode_frame.specs.Call.{Call}
+use Rattle.decode_frame.specs.Call.{Call, shapeAt, stateAt}
 use Rattle.decode_frame.specs.declared.FrameAnswer.{FrameAnswer}
 
 module _ (s : SilkDecoderState) (x : Call) where
   unfoldable pub frameRefusal : Refusal
-  frameRefusal = firstOf (frameRows s (x .frame) (x .control) (x .lines) (length (x .pulses)) (length (x .output)))
+  frameRefusal =
+      firstOf (frameRows (x .rate) (x .subframes) s (x .frame) (x .control) (x .lines) (length (x .pulses)) (length (x .output)))
 
+  -- a frame of the coming shape on the state as it leaves it
   abbrev pub frameOutcome : Outcome
-  frameOutcome = wholeFrame (shapeOf s) s (x .frame) (x .control) (x .rows) (x .lines) (x .pulses)
+  frameOutcome = wholeFrame (shapeAt x) (stateAt s x) (x .frame) (x .control) (x .rows) (x .lines) (x .pulses)
 
   -- the new state and description, or those lent
   unfoldable pub frameAnswer : FrameAnswer
@@ -32,4 +33,4 @@ module _ (s : SilkDecoderState) (x : Call) where
 
   -- the samples and the rest of what was lent, or all of it
   unfoldable pub frameOutput : List ℤ
-  frameOutput = ifAccepted frameRefusal (frameOutcome .samples ++ drop (frameLength (shapeOf s)) (x .output)) (x .output)
+  frameOutput = ifAccepted frameRefusal (frameOutcome .samples ++ drop (frameLength (shapeAt x)) (x .output)) (x .output)

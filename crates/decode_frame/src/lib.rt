@@ -6,6 +6,7 @@ use decoder::Frame;
 use decoder::Params;
 use decoder::SilkDecoderControl;
 use decoder::SilkDecoderState;
+use decoder::reshaped;
 use glue::leave_energy;
 use glue::receive;
 use plc::conceal::plc_conceal;
@@ -163,9 +164,11 @@ fn received(
     Played { state, control }
 }
 
-// A received frame: refused, it changes nothing.
+// A received frame of a coming shape: refused, it changes nothing.
 pub fn received_frame(
     s: SilkDecoderState,
+    khz: i32,
+    nb_subfr: i32,
     q: Params,
     c: SilkDecoderControl,
     rows: [[i16; 16]; 2],
@@ -173,10 +176,10 @@ pub fn received_frame(
     pulses: &[i16],
     xq: &mut [i16],
 ) -> FrameAnswer
-    ensures { λ r. ⌜ (r ≡ frameAnswer s (frameCall (Received q) c rows lines (now (pulses .entry)) (now (xq .entry))))
-        × (now (xq .exit) ≡ frameOutput s (frameCall (Received q) c rows lines (now (pulses .entry)) (now (xq .entry)))) ⌝ }
+    ensures { λ r. ⌜ (r ≡ frameAnswer s (frameCall khz «nb_subfr» (Received q) c rows lines (now (pulses .entry)) (now (xq .entry))))
+        × (now (xq .exit) ≡ frameOutput s (frameCall khz «nb_subfr» (Received q) c rows lines (now (pulses .entry)) (now (xq .entry)))) ⌝ }
 {
-    let refusal = judge::received(s, q, c, lines, pulses.len(), xq.len());
+    let refusal = judge::received(s, khz, nb_subfr, q, c, lines, pulses.len(), xq.len());
     if refusal::number(refusal) != 0 {
         return FrameAnswer {
             refusal,
@@ -184,8 +187,9 @@ pub fn received_frame(
             control: c,
         };
     }
-    let n = shape::frame_length(s.fs_khz, s.nb_subfr);
-    let o = received(s, q, c, rows, lines, pulses, &mut xq[..n]);
+    let n = shape::frame_length(khz, nb_subfr);
+    let t = reshaped(s, khz, nb_subfr);
+    let o = received(t, q, c, rows, lines, pulses, &mut xq[..n]);
     let state = o.state;
     let control = o.control;
     FrameAnswer {
@@ -195,11 +199,17 @@ pub fn received_frame(
     }
 }
 
-// A lost frame: refused, it changes nothing.
-pub fn lost_frame(s: SilkDecoderState, c: SilkDecoderControl, xq: &mut [i16]) -> FrameAnswer
-    ensures { λ r. ⌜ (r ≡ frameAnswer s (frameCall Lost c [] [] [] (now (xq .entry)))) × (now (xq .exit) ≡ frameOutput s (frameCall Lost c [] [] [] (now (xq .entry)))) ⌝ }
+// A lost frame of a coming shape: refused, it changes nothing.
+pub fn lost_frame(
+    s: SilkDecoderState,
+    khz: i32,
+    nb_subfr: i32,
+    c: SilkDecoderControl,
+    xq: &mut [i16],
+) -> FrameAnswer
+    ensures { λ r. ⌜ (r ≡ frameAnswer s (frameCall khz «nb_subfr» Lost c [] [] [] (now (xq .entry)))) × (now (xq .exit) ≡ frameOutput s (frameCall khz «nb_subfr» Lost c [] [] [] (now (xq .entry)))) ⌝ }
 {
-    let refusal = judge::lost(s, xq.len());
+    let refusal = judge::lost(s, khz, nb_subfr, xq.len());
     if refusal::number(refusal) != 0 {
         return FrameAnswer {
             refusal,
@@ -207,8 +217,9 @@ pub fn lost_frame(s: SilkDecoderState, c: SilkDecoderControl, xq: &mut [i16]) ->
             control: c,
         };
     }
-    let n = shape::frame_length(s.fs_khz, s.nb_subfr);
-    let o = lost(s, c, &mut xq[..n]);
+    let n = shape::frame_length(khz, nb_subfr);
+    let t = reshaped(s, khz, nb_subfr);
+    let o = lost(t, c, &mut xq[..n]);
     let state = o.state;
     let control = o.control;
     FrameAnswer {
@@ -220,6 +231,8 @@ pub fn lost_frame(s: SilkDecoderState, c: SilkDecoderControl, xq: &mut [i16]) ->
 
 pub fn silk_decode_frame(
     s: SilkDecoderState,
+    khz: i32,
+    nb_subfr: i32,
     f: Frame,
     c: SilkDecoderControl,
     rows: [[i16; 16]; 2],
@@ -227,13 +240,13 @@ pub fn silk_decode_frame(
     pulses: &[i16],
     xq: &mut [i16],
 ) -> FrameAnswer
-    ensures { λ r. ⌜ (r ≡ frameAnswer s (frameCall f c rows lines (now (pulses .entry)) (now (xq .entry))))
-        × (now (xq .exit) ≡ frameOutput s (frameCall f c rows lines (now (pulses .entry)) (now (xq .entry)))) ⌝ }
+    ensures { λ r. ⌜ (r ≡ frameAnswer s (frameCall khz «nb_subfr» f c rows lines (now (pulses .entry)) (now (xq .entry))))
+        × (now (xq .exit) ≡ frameOutput s (frameCall khz «nb_subfr» f c rows lines (now (pulses .entry)) (now (xq .entry)))) ⌝ }
 {
     let Frame::Received(q) = f else {
-        return lost_frame(s, c, xq);
+        return lost_frame(s, khz, nb_subfr, c, xq);
     };
-    received_frame(s, q, c, rows, lines, pulses, xq)
+    received_frame(s, khz, nb_subfr, q, c, rows, lines, pulses, xq)
 }
 
 // The excitation that a received frame leaves in the state is 64 times RFC 6716's. The claim has no code: it is a contract.

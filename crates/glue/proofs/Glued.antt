@@ -126,3 +126,22 @@ glued-typed s n frame l m w t =
     (either TypedPlc (eqℤ (s .«loss_cnt») (pos 0)) {x = holdEnergy h (pos 0) (h .«conc_energy») (h .«conc_energy_shift»)} {y = holdEnergy h (pos 1) (pos (energyAt frame (energyShift frame))) (pos (energyShift frame))}
     (held-typed h (pos 0) (h .«conc_energy») (h .«conc_energy_shift») (t .«s_plc») (record { sfits = omega arith }) (t .«s_plc» .«conc_energy») (t .«s_plc» .«conc_energy_shift»))
     (held-typed h (pos 1) (pos (energyAt frame (energyShift frame))) (pos (energyShift frame)) (t .«s_plc») (record { sfits = omega arith }) (record { sfits = omega arith }) (record { sfits = omega arith })))
+
+-- ---- what gluing leaves of concealment
+pub record Glued (h k : SilkPLCState) : Type 0 where
+  pub taps : k .«ltp_coef_q14» ≡ h .«ltp_coef_q14»
+  pub coefs : k .«prev_lpc_q12» ≡ h .«prev_lpc_q12»
+  pub scale : k .«rand_scale_q14» ≡ h .«rand_scale_q14»
+  pub ltp : k .«prev_ltp_scale_q14» ≡ h .«prev_ltp_scale_q14»
+  pub gains : k .«prev_gain_q16» ≡ h .«prev_gain_q16»
+  pub rate : k .«fs_khz» ≡ h .«fs_khz»
+
+energy-only : (h : SilkPLCState) (lost energy shift : ℤ) → Glued h (holdEnergy h lost energy shift)
+energy-only h lost energy shift = record { taps = refl; coefs = refl; scale = refl; ltp = refl; gains = refl; rate = refl }
+
+pub glued : (s : SilkDecoderState) (frame : List ℤ) → Glued (s .«s_plc») (glueFrames s frame .state .«s_plc»)
+unfolding glueFrames
+glued s frame =
+    let h = s .«s_plc» in
+    either (Glued h) (eqℤ (s .«loss_cnt») (pos 0)) (energy-only h (pos 0) (h .«conc_energy») (h .«conc_energy_shift»))
+    (energy-only h (pos 1) (pos (energyAt frame (energyShift frame))) (pos (energyShift frame)))

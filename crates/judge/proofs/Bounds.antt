@@ -15,20 +15,24 @@ use Rattle.refusal.specs.First.{Row, firstOf}
 use Rattle.refusal.specs.Refusals.{refusalNumber}
 use Rattle.refusal.specs.declared.Refusal.the-variants.{Nothing}
 use Rattle.refusal.proofs.Clear.{Clear, real, clear, first-append}
-use Rattle.shape.specs.Shape.{Shape, rateOf, frameLength}
+use Rattle.shape.specs.Shape.{Shape, shape, rateOf, frameLength}
 use Rattle.decoder.specs.Signals.{signalNumber, isType, isVoiced}
 use Rattle.decoder.specs.State.{shapeOf}
 use Rattle.decoder.specs.Ranges.{within, allWithin, onlyIf, linesFit}
-use Rattle.decoder.specs.Rows.{stateRows}
+use Rattle.decoder.specs.Reshape.{reshapedBy, reshaped}
+use Rattle.decoder.specs.Rows.{stateRows, comingRows}
 use Rattle.decoder.specs.Accepted.{Accepted}
 use Rattle.decoder.specs.declared.SilkDecoderState.{SilkDecoderState}
 use Rattle.decoder.specs.declared.SilkDecoderControl.{SilkDecoderControl}
 use Rattle.decoder.specs.declared.Params.{Params}
+use Rattle.decoder.specs.declared.Frame.{Frame}
+use Rattle.decoder.specs.declared.Frame.the-variants.{Received, Lost}
 use Rattle.judge.specs.Taps.{tapSum, tapsFit}
-use Rattle.judge.specs.Rows.{signalRow, gainRow, lagRow, tapsRow, lengthRow, paramRows, receivedRows, lostRows, coreRows, plcReceivedRows, glueRows, cngRows}
+use Rattle.judge.specs.Rows.{signalRow, gainRow, lagRow, tapsRow, lengthRow, paramRows, receivedRows, lostRows, frameRows, coreRows, plcReceivedRows, plcLostRows, glueRows, cngRows}
 use Rattle.word.proofs.Rows.{both, neither}
 use Rattle.decoder.proofs.Bounds.{state-clear}
 use Rattle.decoder.proofs.Between.{Between, only, between, all-between}
+use Rattle.decoder.proofs.Coming.{coming-accepted}
 use Rattle.judge.proofs.Sums.{each-fits}
 
 -- ---- rows 5 to 8
@@ -119,31 +123,42 @@ only-off : (a b : Bool) → a ≡ true → (a && b) ≡ false → b ≡ false
 only-off true b h e = e
 only-off false b h e = absurd (false≢true h)
 
-pub received-fits : (s : SilkDecoderState) (q : Params) (c : SilkDecoderControl) (lines : List ℤ) (pulses output : ℕ) → refusalNumber (firstOf (receivedRows s q c lines pulses output)) ≡ 0 → ReceivedFits s q c lines pulses output
-received-fits s q c lines pulses output e =
-    let f = met (stateRows s) _ refl e in
-    let g = met (paramRows (shapeOf s) q c) _ refl (f .1) in
-    let h = clear _ Nothing refl (g .1) .0 in
-    record {
-      core =
-          record {
-            accepted = state-clear s (f .0);
-            params = params-fit (shapeOf s) q c (g .0);
-            pulses-lent = ltb-false pulses (frameLength (shapeOf s)) (h .1 .0);
-            output-lent = ltb-false output (frameLength (shapeOf s)) (h .1 .1 .0);
-          };
-      lines-fit = not-false _ (h .0);
-    }
+-- a whole frame: on the state as the coming shape leaves it
+module _ (khz nb : ℤ) (s : SilkDecoderState) where
+  pub received-fits : (q : Params) (c : SilkDecoderControl) (lines : List ℤ) (pulses output : ℕ) → refusalNumber (firstOf (receivedRows khz nb s q c lines pulses output)) ≡ 0
+      → ReceivedFits (reshaped khz nb s) q c lines pulses output
+  unfolding reshaped reshapedBy
+  received-fits q c lines pulses output e =
+      let p = shape khz nb in
+      let f = met (comingRows khz nb s) _ refl e in
+      let g = met (paramRows p q c) _ refl (f .1) in
+      let h = clear _ Nothing refl (g .1) .0 in
+      record {
+        core =
+            record {
+              accepted = coming-accepted khz nb s (f .0);
+              params = params-fit p q c (g .0);
+              pulses-lent = ltb-false pulses (frameLength p) (h .1 .0);
+              output-lent = ltb-false output (frameLength p) (h .1 .1 .0);
+            };
+        lines-fit = not-false _ (h .0);
+      }
 
-pub lost-fits : (s : SilkDecoderState) (output : ℕ) → refusalNumber (firstOf (lostRows s output)) ≡ 0 → LostFits s output
-lost-fits s output e =
-    let f = met (stateRows s) _ refl e in
-    let h = clear _ Nothing refl (f .1) .0 in
-    record {
-      accepted = state-clear s (f .0);
-      not-full = h .0;
-      output-lent = ltb-false output (frameLength (shapeOf s)) (h .1 .0);
-    }
+  pub lost-fits : (output : ℕ) → refusalNumber (firstOf (lostRows khz nb s output)) ≡ 0 → LostFits (reshaped khz nb s) output
+  unfolding reshaped reshapedBy
+  lost-fits output e =
+      let f = met (comingRows khz nb s) _ refl e in
+      let h = clear _ Nothing refl (f .1) .0 in
+      record {
+        accepted = coming-accepted khz nb s (f .0);
+        not-full = h .0;
+        output-lent = ltb-false output (frameLength (shape khz nb)) (h .1 .0);
+      }
+
+  pub frame-accepted : (f : Frame) (c : SilkDecoderControl) (lines : List ℤ) (pulses output : ℕ) → refusalNumber (firstOf (frameRows khz nb s f c lines pulses output)) ≡ 0
+      → Accepted (rateOf (reshaped khz nb s .«fs_khz»)) (reshaped khz nb s)
+  frame-accepted (Received q) c lines pulses output e = received-fits q c lines pulses output e .core .accepted
+  frame-accepted Lost c lines pulses output e = lost-fits output e .accepted
 
 pub core-fits : (s : SilkDecoderState) (q : Params) (c : SilkDecoderControl) (pulses output : ℕ) → refusalNumber (firstOf (coreRows s q c pulses output)) ≡ 0 → CoreFits s q c pulses output
 core-fits s q c pulses output e =
@@ -161,6 +176,16 @@ pub plc-received-fits : (s : SilkDecoderState) (q : Params) (c : SilkDecoderCont
 plc-received-fits s q c e =
     let f = met (stateRows s) _ refl e in
     record { accepted = state-clear s (f .0); params = params-fit (shapeOf s) q c (clear _ Nothing refl (f .1) .0) }
+
+pub plc-lost-fits : (s : SilkDecoderState) (output : ℕ) → refusalNumber (firstOf (plcLostRows s output)) ≡ 0 → LostFits s output
+plc-lost-fits s output e =
+    let f = met (stateRows s) _ refl e in
+    let h = clear _ Nothing refl (f .1) .0 in
+    record {
+      accepted = state-clear s (f .0);
+      not-full = h .0;
+      output-lent = ltb-false output (frameLength (shapeOf s)) (h .1 .0);
+    }
 
 pub glue-fits : (s : SilkDecoderState) (lent n : ℕ) → refusalNumber (firstOf (glueRows s lent n)) ≡ 0 → GlueFits s lent n
 glue-fits s lent n e =

@@ -7,11 +7,11 @@ use lib.IntN.{ℤ, pos}
 use Rattle.word.specs.Int.{eqℤ}
 use Rattle.refusal.specs.First.{Row, _gives_}
 use Rattle.refusal.specs.declared.Refusal.the-variants.{RunFull, Signal, Gain, Lag, Taps, Line, Pulses, Speaker, Length}
-use Rattle.shape.specs.Shape.{Shape, frameLength}
+use Rattle.shape.specs.Shape.{Shape, shape, frameLength}
 use Rattle.decoder.specs.Signals.{isType, isVoiced}
 use Rattle.decoder.specs.State.{shapeOf}
 use Rattle.decoder.specs.Ranges.{within, allWithin, onlyIf, linesFit}
-use Rattle.decoder.specs.Rows.{stateRows}
+use Rattle.decoder.specs.Rows.{stateRows, comingRows}
 use Rattle.decoder.specs.declared.SilkDecoderState.{SilkDecoderState}
 use Rattle.decoder.specs.declared.SilkDecoderControl.{SilkDecoderControl}
 use Rattle.decoder.specs.declared.Params.{Params}
@@ -67,20 +67,25 @@ paramRows p q c =
 abbrev pub roomRows : Shape → ℕ → ℕ → List Row
 roomRows p pulses output = (roomRow p pulses gives Pulses) ∷ (roomRow p output gives Speaker) ∷ []
 
--- the rows that a whole received frame meets: 1 to 11 but 4
-abbrev pub receivedRows : SilkDecoderState → Params → SilkDecoderControl → List ℤ → ℕ → ℕ → List Row
-receivedRows s q c lines pulses output =
-    let p = shapeOf s in
-    stateRows s ++ paramRows p q c ++ (lineRow p lines gives Line) ∷ roomRows p pulses output
+-- rows 4 and 11 of a lost frame
+abbrev pub lossRows : Shape → SilkDecoderState → ℕ → List Row
+lossRows p s output = (runFullRow s gives RunFull) ∷ (roomRow p output gives Speaker) ∷ []
 
--- those of a lost frame, whole or concealed alone: 1 to 4 and 11
-abbrev pub lostRows : SilkDecoderState → ℕ → List Row
-lostRows s output =
-    stateRows s ++ (runFullRow s gives RunFull) ∷ (roomRow (shapeOf s) output gives Speaker) ∷ []
+-- a whole frame brings a rate and a count (document 02, Note 1): the rows from 4 on are met at that shape
+module _ (khz nb : ℤ) (s : SilkDecoderState) where
+  -- the rows that a received one meets: 1 to 11 but 4
+  abbrev pub receivedRows : Params → SilkDecoderControl → List ℤ → ℕ → ℕ → List Row
+  receivedRows q c lines pulses output =
+      let p = shape khz nb in
+      comingRows khz nb s ++ paramRows p q c ++ (lineRow p lines gives Line) ∷ roomRows p pulses output
 
-abbrev pub frameRows : SilkDecoderState → Frame → SilkDecoderControl → List ℤ → ℕ → ℕ → List Row
-frameRows s (Received q) c lines pulses output = receivedRows s q c lines pulses output
-frameRows s Lost c lines pulses output = lostRows s output
+  -- those of a lost one: 1 to 4 and 11
+  abbrev pub lostRows : ℕ → List Row
+  lostRows output = comingRows khz nb s ++ lossRows (shape khz nb) s output
+
+  abbrev pub frameRows : Frame → SilkDecoderControl → List ℤ → ℕ → ℕ → List Row
+  frameRows (Received q) c lines pulses output = receivedRows q c lines pulses output
+  frameRows Lost c lines pulses output = lostRows output
 
 -- those of core alone: 1 to 3, 5 to 8, 10, 11
 abbrev pub coreRows : SilkDecoderState → Params → SilkDecoderControl → ℕ → ℕ → List Row
@@ -91,6 +96,10 @@ coreRows s q c pulses output =
 -- those of concealment alone for a received frame: 1 to 3 and 5 to 8
 abbrev pub plcReceivedRows : SilkDecoderState → Params → SilkDecoderControl → List Row
 plcReceivedRows s q c = stateRows s ++ paramRows (shapeOf s) q c
+
+-- for a lost one: 1 to 4 and 11
+abbrev pub plcLostRows : SilkDecoderState → ℕ → List Row
+plcLostRows s output = stateRows s ++ lossRows (shapeOf s) s output
 
 -- those of gluing alone: 1 to 3 and 12
 abbrev pub glueRows : SilkDecoderState → ℕ → ℕ → List Row

@@ -37,7 +37,7 @@ ghost use Rattle.shape.specs.Shape.{shape, rateOf, countOf};
 ghost use Rattle.decoder.specs.Ranges.{within, linesFit};
 ghost use Rattle.decoder.specs.Rows.{stateRows, comingRows};
 ghost use Rattle.judge.specs.Taps.{tapSum, tapsFit};
-ghost use Rattle.judge.specs.Rows.{signalRow, gainRow, lagRow, tapsRow, roomRow, lengthRow, paramRows, roomRows, receivedRows, lostRows, frameRows, coreRows, plcReceivedRows, glueRows, cngRows};
+ghost use Rattle.judge.specs.Rows.{signalRow, gainRow, lagRow, tapsRow, roomRow, lengthRow, paramRows, roomRows, lossRows, receivedRows, lostRows, frameRows, coreRows, plcReceivedRows, plcLostRows, glueRows, cngRows};
 
 fn tap(taps: &[i16; 20], i: usize) -> i32
     requires { ⌜ i < 20 ⌝ }
@@ -200,52 +200,59 @@ fn room_rows(fs_khz: i32, nb_subfr: i32, pulses: usize, output: usize) -> Refusa
     first(few_pulses, Refusal::Pulses, speaker)
 }
 
+// Rows 4 and 11.
+fn loss_rows(s: SilkDecoderState, khz: i32, nb_subfr: i32, output: usize) -> Refusal
+    ensures { λ r. ⌜ r ≡ firstOf (lossRows (shape khz «nb_subfr») s output) ⌝ }
+{
+    let few_samples = room_row(khz, nb_subfr, output);
+    let from_11 = first(few_samples, Refusal::Speaker, Refusal::Nothing);
+    first(run_full_row(s.loss_cnt), Refusal::RunFull, from_11)
+}
+
+// A whole received frame with its coming shape.
 pub fn received(
     s: SilkDecoderState,
+    khz: i32,
+    nb_subfr: i32,
     q: Params,
     c: SilkDecoderControl,
     lines: [i16; 16],
     pulses: usize,
     output: usize,
 ) -> Refusal
-    ensures { λ r. ⌜ r ≡ firstOf (receivedRows s q c lines pulses output) ⌝ }
+    ensures { λ r. ⌜ r ≡ firstOf (receivedRows khz «nb_subfr» s q c lines pulses output) ⌝ }
 {
-    let khz = s.fs_khz;
-    let n = s.nb_subfr;
     let line = first(
         line_row(khz, lines),
         Refusal::Line,
-        room_rows(khz, n, pulses, output),
+        room_rows(khz, nb_subfr, pulses, output),
     );
-    state_rows(s, param_rows(khz, n, q, c, line))
+    coming_rows(s, khz, nb_subfr, param_rows(khz, nb_subfr, q, c, line))
 }
 
-pub fn lost(s: SilkDecoderState, output: usize) -> Refusal
-    ensures { λ r. ⌜ r ≡ firstOf (lostRows s output) ⌝ }
+// A whole lost frame with its coming shape.
+pub fn lost(s: SilkDecoderState, khz: i32, nb_subfr: i32, output: usize) -> Refusal
+    ensures { λ r. ⌜ r ≡ firstOf (lostRows khz «nb_subfr» s output) ⌝ }
 {
-    let speaker = first(
-        room_row(s.fs_khz, s.nb_subfr, output),
-        Refusal::Speaker,
-        Refusal::Nothing,
-    );
-    let run_full = first(run_full_row(s.loss_cnt), Refusal::RunFull, speaker);
-    state_rows(s, run_full)
+    coming_rows(s, khz, nb_subfr, loss_rows(s, khz, nb_subfr, output))
 }
 
 pub fn frame(
     s: SilkDecoderState,
+    khz: i32,
+    nb_subfr: i32,
     f: Frame,
     c: SilkDecoderControl,
     lines: [i16; 16],
     pulses: usize,
     output: usize,
 ) -> Refusal
-    ensures { λ r. ⌜ r ≡ firstOf (frameRows s f c lines pulses output) ⌝ }
+    ensures { λ r. ⌜ r ≡ firstOf (frameRows khz «nb_subfr» s f c lines pulses output) ⌝ }
 {
     let Frame::Received(q) = f else {
-        return lost(s, output);
+        return lost(s, khz, nb_subfr, output);
     };
-    received(s, q, c, lines, pulses, output)
+    received(s, khz, nb_subfr, q, c, lines, pulses, output)
 }
 
 pub fn core(
@@ -269,6 +276,12 @@ pub fn plc_received(s: SilkDecoderState, q: Params, c: SilkDecoderControl) -> Re
     ensures { λ r. ⌜ r ≡ firstOf (plcReceivedRows s q c) ⌝ }
 {
     state_rows(s, param_rows(s.fs_khz, s.nb_subfr, q, c, Refusal::Nothing))
+}
+
+pub fn plc_lost(s: SilkDecoderState, output: usize) -> Refusal
+    ensures { λ r. ⌜ r ≡ firstOf (plcLostRows s output) ⌝ }
+{
+    state_rows(s, loss_rows(s, s.fs_khz, s.nb_subfr, output))
 }
 
 pub fn glue(s: SilkDecoderState, lent: usize, n: usize) -> Refusal

@@ -51,6 +51,13 @@ paramsIn frame =
 unfoldable pub frameIn : List ℤ → Frame
 frameIn frame = cond (eqℤ (one frame 0) (pos 0)) Lost (Received (paramsIn frame))
 
+-- the rate and the count of subframes that come with it
+unfoldable pub rateIn : List ℤ → ℤ
+rateIn frame = one frame 1
+
+unfoldable pub subframesIn : List ℤ → ℤ
+subframesIn frame = one frame 2
+
 -- the description; its taps are the first 20 coefficients
 unfoldable pub controlIn : List ℤ → List ℤ → SilkDecoderControl
 controlIn frame coefs =

@@ -21,7 +21,7 @@ ghost use lib.ListN.{length};
 ghost use mir.Syntax.{w8};
 ghost use Rattle.word.specs.Int.{wrap};
 ghost use Rattle.refusal.specs.Refusals.{ifAccepted};
-ghost use Rattle.layout.specs.Frame.{FRAME, COEFS, shortFrame, shortCall, small, paramsIn, frameIn, controlIn, tapless, rowsIn, linesIn, withLags, withTaps};
+ghost use Rattle.layout.specs.Frame.{FRAME, COEFS, shortFrame, shortCall, small, paramsIn, frameIn, rateIn, subframesIn, controlIn, tapless, rowsIn, linesIn, withLags, withTaps};
 
 pub const FRAME: usize = 16;
 
@@ -82,6 +82,22 @@ pub fn frame_in(frame: &[i32]) -> Frame
     }
     let q = params_in(frame);
     Frame::Received(q)
+}
+
+// The rate that comes with a frame.
+pub fn rate_in(frame: &[i32]) -> i32
+    requires { ⌜ FRAME ≤ length (now frame) ⌝ }
+    ensures { λ r. ⌜ r ≡ rateIn (now (frame .entry)) ⌝ }
+{
+    frame[1]
+}
+
+// The count of subframes that comes with it.
+pub fn subframes_in(frame: &[i32]) -> i32
+    requires { ⌜ FRAME ≤ length (now frame) ⌝ }
+    ensures { λ r. ⌜ r ≡ subframesIn (now (frame .entry)) ⌝ }
+{
+    frame[2]
 }
 
 // The description; of coefs the taps alone are read.

@@ -4,7 +4,7 @@ use mathlib.Core.Path.{_≡_, refl, sym, ap, _∙_, subst}
 use mathlib.Core.Bool.{Bool, true, false, cond, false≢true}
 use native.Mathlib.Omega.{arith}
 use lib.Dec.{eqb}
-use lib.IntN.{pos, negsuc, natAbs, pos-ne-negsuc}
+use lib.IntN.{ℤ, pos, negsuc, natAbs, pos-ne-negsuc}
 use lib.ListN.{length}
 use Rattle.word.specs.Int.{eqℤ}
 use Rattle.word.proofs.Order.{eqℤ-true}
@@ -14,9 +14,9 @@ use Rattle.refusal.specs.declared.Refusal.{Refusal}
 use Rattle.decoder.specs.declared.SilkDecoderState.{SilkDecoderState}
 use Rattle.decoder.specs.declared.Frame.{Frame}
 use Rattle.decoder.specs.declared.Frame.the-variants.{Received, Lost}
-use Rattle.decode_frame.specs.Answer.{frameAnswer}
+use Rattle.decode_frame.specs.Answer.{frameRefusal, frameAnswer}
 use Rattle.decode_frame.proofs.Kept.{Good}
-use Rattle.lists.specs.Lists.{refusalOf, stateAfter, counted, countAfter}
+use Rattle.lists.specs.Lists.{stateAfter, counted, countAfter}
 use Rattle.lists.specs.Claims.{NotForState, TypedBeside, TypedCall}
 use Rattle.lists.proofs.Keeps.{keeps}
 use Rattle.layout.specs.Layout.{WORDS, HALVES, stateWords, stateHalves, withWords, withHalves}
@@ -49,12 +49,12 @@ module _ (short : Bool) (r : Refusal) (new lent : Slices) where
       go false true e z = absurd (false≢true (sym z ∙ e))
       go false false e z = refl
 
-  pub not-for-state : NotForState (pos (refusalNumber r)) → NotForState (called short r new lent .answer)
+  pub not-for-state : (khz nb : ℤ) → NotForState khz nb (pos (refusalNumber r)) → NotForState khz nb (called short r new lent .answer)
   unfolding called
-  not-for-state h = go short
+  not-for-state khz nb h = go short
     where
-      go : (b : Bool) → NotForState (cond b (negsuc 0) (pos (refusalNumber r)))
-      go true = (λ e. pos-ne-negsuc 1 0 (sym e), λ e. pos-ne-negsuc 2 0 (sym e), λ e. pos-ne-negsuc 3 0 (sym e))
+      go : (b : Bool) → NotForState khz nb (cond b (negsuc 0) (pos (refusalNumber r)))
+      go true = (λ e. absurd (pos-ne-negsuc 1 0 (sym e)), λ e. absurd (pos-ne-negsuc 2 0 (sym e)), λ e. pos-ne-negsuc 3 0 (sym e))
       go false = h
 
 -- ---- slices that hold a good state
@@ -92,17 +92,17 @@ module _ (m : Held) (x : Linked) where
       beside k Lost = tt
 
   -- one that answers 0
-  pub frame-played : callOf m x .answer ≡ pos 0 → (callShort (lentTo m x) ≡ false) × (refusalNumber (refusalOf (stateOf m) (broughtBy x)) ≡ 0) × (leftBy (callOf m x) ≡ storedIn m (stateAfter (stateOf m) (broughtBy x)))
-  unfolding frameCall playedCall refusalOf stateAfter frameAnswer
+  pub frame-played : callOf m x .answer ≡ pos 0 → (callShort (lentTo m x) ≡ false) × (refusalNumber (frameRefusal (stateOf m) (broughtBy x)) ≡ 0) × (leftBy (callOf m x) ≡ storedIn m (stateAfter (stateOf m) (broughtBy x)))
+  unfolding frameCall playedCall stateAfter frameAnswer
   frame-played z = let p = played _ _ _ _ z in (p .0, p .1, ap heldIn (p .2))
 
   frame-unplayed : eqℤ (callOf m x .answer) (pos 0) ≡ false → leftBy (callOf m x) ≡ m
   unfolding frameCall playedCall
   frame-unplayed z = ap heldIn (unplayed _ _ _ _ z)
 
-  pub frame-not-for-state : NotForState (pos (refusalNumber (refusalOf (stateOf m) (broughtBy x)))) → NotForState (callOf m x .answer)
-  unfolding frameCall playedCall refusalOf frameAnswer
-  frame-not-for-state h = not-for-state _ _ _ _ h
+  pub frame-not-for-state : (khz nb : ℤ) → NotForState khz nb (pos (refusalNumber (frameRefusal (stateOf m) (broughtBy x)))) → NotForState khz nb (callOf m x .answer)
+  unfolding frameCall playedCall frameAnswer
+  frame-not-for-state khz nb h = not-for-state _ _ _ _ khz nb h
 
   module _ (t : TypedLinked x) (g : GoodHeld m) where
     -- one that answers 0 leaves what the whole-frame call leaves

@@ -12,6 +12,8 @@ use Rattle.sigproc.proofs.Places.{part-take}
 use Rattle.refusal.specs.Refusals.{refusalNumber}
 use Rattle.shape.specs.Shape.{Shape, frameLength, memLength}
 use Rattle.decoder.specs.State.{shapeOf}
+use Rattle.decoder.specs.Reshape.{reshapedBy, reshaped}
+use Rattle.decoder.proofs.Coming.{Own}
 use Rattle.decoder.specs.SetUp.{setUp}
 use Rattle.decoder.specs.declared.SilkDecoderState.{SilkDecoderState}
 use Rattle.decoder.specs.declared.Frame.the-variants.{Lost}
@@ -19,14 +21,15 @@ use Rattle.plc.specs.Conceal.{laterGain, plcConceal}
 use Rattle.decode_frame.proofs.Kept.{Good}
 use Rattle.quiet.specs.Bound.{quietBound}
 use Rattle.quiet.proofs.Start.{fits}
-use Rattle.decode_frame.specs.Call.{Call}
-use Rattle.lists.specs.Lists.{refusalOf, stateAfter, countAfter}
+use Rattle.decode_frame.specs.Call.{Call, shapeAt, stateAt}
+use Rattle.decode_frame.specs.Answer.{frameRefusal}
+use Rattle.lists.specs.Lists.{stateAfter, countAfter}
 use Rattle.lists.specs.Claims.{Every, none, then, TypedCall}
-use Rattle.lists.proofs.Keeps.{newState, keeps, every-map}
+use Rattle.lists.proofs.Keeps.{newState, coming-good, keeps, keeps-own, every-map}
 use Rattle.lists.proofs.History.{not-refused, set-up-shaped}
-use Rattle.lists.proofs.Lost.{lost-shape, last-frame}
+use Rattle.lists.proofs.Lost.{last-frame}
 use Rattle.lists.proofs.Losses.{Counts, counts-after, set-up-counts}
-use Rattle.lists.proofs.Loud.{Quietens, fresh, quietens-after, lost-state, place-quiet}
+use Rattle.lists.proofs.Loud.{Quietens, fresh, quietens-after, shape-after, lost-state, place-quiet}
 use Rattle.layout.specs.Layout.{part, one, stateIn, plcIn}
 use Rattle.layout.proofs.Slices.{state-typed, state-long}
 use Rattle.post.specs.Stages.{setUpCall}
@@ -72,8 +75,10 @@ start-held m f = elim f as (λ t. GoodHeld m) [ inl a ↦ set-up-held m a .0 | i
 pub linked-history : LinkedHistory
 linked-history m xs f ts =
     let h = set-up-held m f in
-    every-map (λ t s. frame-not-for-state (t .held) (t .call) (not-refused (stateOf (t .held)) (broughtBy (t .call)) (s .holds)))
-    (along (λ s n. Good s) (λ s n x g t. keeps s x g t) m 0 (h .0) (h .1 .good) ts)
+    every-map
+    (λ t s. frame-not-for-state (t .held) (t .call) (broughtBy (t .call) .rate) (broughtBy (t .call) .subframes)
+    (not-refused (stateOf (t .held)) (broughtBy (t .call)) (s .holds .0) (s .holds .1)))
+    (along (λ s n. Good s × Own s) (λ s n x k t. (keeps s x (k .0) t, keeps-own s x (k .0) t (k .1))) m 0 (h .0) (h .1 .good, h .1 .own) ts)
 
 pub linked-losses : LinkedLosses
 unfolding stateIn
@@ -93,7 +98,7 @@ module _ (t : At) (so : Stands Quietens t) (z : LostPlayed t) where
   left : GoodHeld (slicesAfter t) × (stateOf (slicesAfter t) ≡ stateAfter s x)
   left = frame-left (t .held) (t .call) (so .typed) (so .held) (z .1)
 
-  accepted : refusalNumber (refusalOf s x) ≡ 0
+  accepted : refusalNumber (frameRefusal s x) ≡ 0
   accepted = frame-played (t .held) (t .call) (z .1) .1
 
   is-new : stateOf (slicesAfter t) ≡ newState s Lost x
@@ -111,14 +116,15 @@ module _ (t : At) (so : Stands Quietens t) (z : LostPlayed t) where
       sym (part-take (slicesAfter t .halves) 480 (memLength p - frameLength p) (frameLength p) (omega (arith, f .shaped .frame-high, f .shaped .rate-high)))
 
   samples-seen : lastFrame (slicesAfter t) ≡ concealedIn t
-  unfolding plcConceal
+  unfolding plcConceal reshaped reshapedBy
   samples-seen =
-      let p = shapeOf s in
+      let p = shapeAt x in
+      let v = stateAt s x in
       let u = newState s Lost x in
-      let g = so .held .good in
+      let g = coming-good s x (so .held .good) accepted in
       in-halves ∙ ap lastOf is-new
-      ∙ ap (λ (q : Shape). part (u .«out_buf») (memLength q - frameLength q) (frameLength q)) (lost-shape p s (x .control) (x .rows) (x .lines) (x .pulses))
-      ∙ last-frame p s (x .control) (x .rows) (x .lines) (x .pulses) (fits s (g .accepted) (g .typed))
+      ∙ ap (λ (q : Shape). part (u .«out_buf») (memLength q - frameLength q) (frameLength q)) (shape-after s x)
+      ∙ last-frame p v (x .control) (x .rows) (x .lines) (x .pulses) (fits v (g .accepted) (g .typed))
 
   gain-seen : gainHeld (slicesAfter t) ≡ gainIn t
   unfolding stateIn plcIn

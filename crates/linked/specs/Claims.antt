@@ -11,13 +11,14 @@ use mir.Val.{SFits}
 use Rattle.word.specs.Size.{Bounded}
 use Rattle.shape.specs.Shape.{shape, rateOf, frameLength, memLength}
 use Rattle.decoder.specs.Accepted.{Accepted}
-use Rattle.decoder.specs.State.{shapeOf}
 use Rattle.decoder.specs.declared.Frame.the-variants.{Lost}
 use Rattle.plc.specs.Conceal.{laterGain, plcConceal}
+use Rattle.decode_frame.specs.Call.{shapeAt, stateAt}
 use Rattle.quiet.specs.Bound.{quietBound}
 use Rattle.lists.specs.Lists.{stateAfter}
 use Rattle.lists.specs.Claims.{Every, NotForState}
 use Rattle.layout.specs.Layout.{part, one, shortState}
+use Rattle.layout.specs.Frame.{rateIn, subframesIn}
 use Rattle.post.specs.Calls.{slices, Called}
 use Rattle.post.specs.Stages.{setUpCall}
 use Rattle.linked.specs.Linked.{Held, stateOf, Linked, callOf, broughtBy, leftBy, At, linkedFrom}
@@ -65,7 +66,9 @@ module _ (t : At) where
 
   -- the concealed samples of a lost frame, by demand 2's definition and before noise
   abbrev pub concealedIn : List ℤ
-  concealedIn = let s = stateOf (t .held) in plcConceal (shapeOf s) s (broughtBy (t .call) .control) .samples
+  concealedIn =
+      let x = broughtBy (t .call) in
+      plcConceal (shapeAt x) (stateAt (stateOf (t .held)) x) (x .control) .samples
 
   -- G: the later of concealment's two gains in the new state
   abbrev pub gainIn : ℕ
@@ -94,11 +97,11 @@ abbrev pub SlicesQuiet : At → Type 0
 SlicesQuiet t = LostPlayed t → 1024 ≤ t .losses → Bounded (quietBound (gainHeld (slicesAfter t))) (lastFrame (slicesAfter t))
 
 -- ---- the claims
--- from a set-up no call answers 1, 2 or 3
+-- from a set-up no call answers 3, 1 where its rate is one, or 2 where its count is one
 abbrev pub LinkedHistory : Type 0
 LinkedHistory =
     (m : Held) (xs : List Linked) → FromSetUp m → Every TypedLinked xs
-    → Every (λ t. NotForState (callAt t .answer)) (linkedFrom m 0 xs)
+    → Every (λ t. NotForState (rateIn (t .call .frame)) (subframesIn (t .call .frame)) (callAt t .answer)) (linkedFrom m 0 xs)
 
 -- and the losses that count are the number of words at 345
 abbrev pub LinkedLosses : Type 0

@@ -9,7 +9,7 @@ use Rattle.decoder.specs.declared.Frame.{Frame}
 use Rattle.decode_frame.specs.Call.{Call}
 use Rattle.lists.specs.Lists.{counted}
 use Rattle.layout.specs.Layout.{stateIn}
-use Rattle.layout.specs.Frame.{frameIn, controlIn, rowsIn, linesIn}
+use Rattle.layout.specs.Frame.{frameIn, rateIn, subframesIn, controlIn, rowsIn, linesIn}
 use Rattle.post.specs.Calls.{Slices, slices, Called}
 use Rattle.post.specs.Stages.{frameCall}
 
@@ -40,6 +40,8 @@ callOf m x = frameCall (lentTo m x)
 abbrev pub broughtBy : Linked → Call
 broughtBy x =
     record {
+      rate = rateIn (x .frame);
+      subframes = subframesIn (x .frame);
       frame = frameIn (x .frame);
       control = controlIn (x .frame) (x .coefs);
       rows = rowsIn (x .coefs);

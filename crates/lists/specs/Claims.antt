@@ -1,7 +1,7 @@
 -- Demand 3: what is claimed of every place of a list, and of which lists.
 use Prim.Native.Nat.{ℕ, suc, _≤_}
 use mathlib.Core.Path.{_≡_}
-use mathlib.Core.Bool.{true}
+use mathlib.Core.Bool.{true, false}
 use mathlib.Core.List.{List, [], _∷_}
 use lib.IntN.{ℤ, pos, natAbs}
 use lib.ListN.{getD, length}
@@ -10,18 +10,18 @@ use mir.Val.{SFits}
 use Rattle.word.specs.Size.{Bounded}
 use Rattle.refusal.specs.Refusals.{refusalNumber}
 use Rattle.refusal.specs.declared.Refusal.the-variants.{Nothing}
-use Rattle.shape.specs.Shape.{Shape, shape, isRate, isCount, rateOf, frameLength}
+use Rattle.shape.specs.Shape.{isRate, isCount, rateOf, frameLength}
 use Rattle.decoder.specs.Accepted.{Accepted}
 use Rattle.decoder.specs.SetUp.{setUpRefusal, setUp}
-use Rattle.decoder.specs.State.{shapeOf}
 use Rattle.decoder.specs.Typed.{Typed, TypedControl, TypedRows, TypedLines}
 use Rattle.decoder.specs.declared.SilkDecoderState.{SilkDecoderState}
 use Rattle.decoder.specs.declared.Frame.{Frame}
 use Rattle.decoder.specs.declared.Frame.the-variants.{Received, Lost}
 use Rattle.plc.specs.Conceal.{laterGain, plcConceal}
-use Rattle.decode_frame.specs.Call.{Call}
+use Rattle.decode_frame.specs.Call.{Call, shapeAt, stateAt}
+use Rattle.decode_frame.specs.Answer.{frameRefusal}
 use Rattle.quiet.specs.Bound.{quietBound}
-use Rattle.lists.specs.Lists.{Place, refusalOf, stateAfter, places}
+use Rattle.lists.specs.Lists.{Place, stateAfter, places}
 
 -- a claim of every element
 pub data Every {A : Type 0} (P : A → Type 0) : List A → Type 0 where
@@ -52,20 +52,20 @@ pub record TypedCall (x : Call) : Type 0 where
 abbrev pub TypedCalls : List Call → Type 0
 TypedCalls xs = Every TypedCall xs
 
--- an answer is none of 1, 2 and 3: no row that judges the state alone applies
-abbrev pub NotForState : ℤ → Type 0
-NotForState answer = (answer ≡ pos 1 → ⊥) × (answer ≡ pos 2 → ⊥) × (answer ≡ pos 3 → ⊥)
+-- an answer to a call with a coming rate and count is not for the state: 1 says that this rate is none, 2 that this count is none, and it is not 3
+abbrev pub NotForState : ℤ → ℤ → ℤ → Type 0
+NotForState khz nb answer = (answer ≡ pos 1 → isRate khz ≡ false) × (answer ≡ pos 2 → isCount nb ≡ false) × (answer ≡ pos 3 → ⊥)
 
 -- the call is not refused for the post's own history
 abbrev pub HistoryKept : Place → Type 0
-HistoryKept t = NotForState (pos (refusalNumber (refusalOf (t .state) (t .call))))
+HistoryKept t = NotForState (t .call .rate) (t .call .subframes) (pos (refusalNumber (frameRefusal (t .state) (t .call))))
 
 abbrev pub Played : Place → Type 0
-Played t = refusalNumber (refusalOf (t .state) (t .call)) ≡ 0
+Played t = refusalNumber (frameRefusal (t .state) (t .call)) ≡ 0
 
 -- the concealed samples of a lost frame, by demand 2's definition and before noise
 abbrev pub concealedAt : Place → List ℤ
-concealedAt t = plcConceal (shapeOf (t .state)) (t .state) (t .call .control) .samples
+concealedAt t = plcConceal (shapeAt (t .call)) (stateAt (t .state) (t .call)) (t .call .control) .samples
 
 -- G: the later of concealment's two gains in the new state
 abbrev pub gainAfter : Place → ℕ
@@ -75,7 +75,7 @@ gainAfter t = natAbs (laterGain (stateAfter (t .state) (t .call) .«s_plc»))
 abbrev pub NotLoud : Place → Type 0
 NotLoud t = t .call .frame ≡ Lost → Played t → 1024 ≤ t .losses → Bounded (quietBound (gainAfter t)) (concealedAt t)
 
--- first half: in every list from a set-up no call is refused for the post's own history
+-- first half: in every list from a set-up no call is refused for the post's own history, whichever shapes come
 abbrev pub FirstHalf : Type 0
 FirstHalf = (khz nb : ℤ) (xs : List Call) → setUpRefusal khz nb ≡ Nothing → TypedCalls xs → Every HistoryKept (places (setUp khz nb .state) xs)
 
@@ -89,15 +89,17 @@ LossesHeld =
     (khz nb : ℤ) (xs : List Call) → setUpRefusal khz nb ≡ Nothing → TypedCalls xs
     → Every (λ t. t .state .«loss_cnt» ≡ pos (t .losses)) (places (setUp khz nb .state) xs)
 
--- a lost frame with room for the samples of a shape
-pub record LostWithRoom (p : Shape) (x : Call) : Type 0 where
+-- a lost frame of one of the six shapes, with room for its samples
+pub record LostWithRoom (x : Call) : Type 0 where
   pub lost : x .frame ≡ Lost
-  pub room : frameLength p ≤ length (x .output)
+  pub rate : isRate (x .rate) ≡ true
+  pub count : isCount (x .subframes) ≡ true
+  pub room : frameLength (shapeAt x) ≤ length (x .output)
 
--- the second half is not empty: at each of the six shapes, of up to 2,147,483,647 lost frames with room from a set-up each is played, and
+-- the second half is not empty: of up to 2,147,483,647 lost frames with room from a set-up, whatever their shapes, each is played, and
 -- before the one numbered k, from 0, there count k losses
 abbrev pub LossesPlayed : Type 0
 LossesPlayed =
     (khz nb : ℤ) (xs : List Call) → isRate khz ≡ true → isCount nb ≡ true → length xs ≤ 2147483647 → TypedCalls xs
-    → Every (LostWithRoom (shape khz nb)) xs
+    → Every LostWithRoom xs
     → Numbered (λ k t. Played t × (t .losses ≡ k)) 0 (places (setUp khz nb .state) xs)

@@ -22,10 +22,11 @@ use Rattle.play.specs.declared.Ended.the-variants.{Received, Concealed, 
 abbrev pub silent : List ℤ
 silent = replicate 320 (pos 0)
 
-module _ (s : SilkDecoderState) (b : List ℕ) where
-  -- the call that a record brings
+-- a record of a stream with a rate and a count of subframes
+module _ (s : SilkDecoderState) (rate subframes : ℤ) (b : List ℕ) where
+  -- the call that it brings
   abbrev pub callIn : Call
-  callIn = frameCall (frameIn b) (controlIn b) (rowsIn b) (linesIn b) (pulsesIn b) silent
+  callIn = frameCall rate subframes (frameIn b) (controlIn b) (rowsIn b) (linesIn b) (pulsesIn b) silent
 
   unfoldable pub answer : FrameAnswer
   answer = frameAnswer s callIn

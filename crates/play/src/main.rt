@@ -32,8 +32,8 @@ struct Sound {
     bytes: [u8; 640],
 }
 
-fn played(s: SilkDecoderState, b: &[u8; 817]) -> Sound
-    ensures { λ r. ⌜ r ≡ soundOf s (now (b .entry)) ⌝ }
+fn played(s: SilkDecoderState, rate: i32, subframes: i32, b: &[u8; 817]) -> Sound
+    ensures { λ r. ⌜ r ≡ soundOf s rate subframes (now (b .entry)) ⌝ }
 {
     let frame = frame_in(b);
     let c = control_in(b);
@@ -41,7 +41,7 @@ fn played(s: SilkDecoderState, b: &[u8; 817]) -> Sound
     let lines = lines_in(b);
     let pulses = pulses_in(b);
     let mut xq = silence();
-    let a = silk_decode_frame(s, frame, c, rows, lines, &pulses, &mut xq);
+    let a = silk_decode_frame(s, rate, subframes, frame, c, rows, lines, &pulses, &mut xq);
     let refusal = a.refusal;
     let state = a.state;
     let bytes = samples_bytes(&xq);
@@ -157,8 +157,8 @@ fn how(kind: u8, refusal: Refusal) -> Ended
     }
 }
 
-// One record, whose frame has n bytes of samples.
-fn next(s: SilkDecoderState, n: usize) -> Turn
+// One record, whose frame has the stream's shape and n bytes of samples.
+fn next(s: SilkDecoderState, rate: i32, subframes: i32, n: usize) -> Turn
     requires { ⌜ n ≤ 640 ⌝ }
 {
     let mut first = [0u8; 1];
@@ -177,7 +177,7 @@ fn next(s: SilkDecoderState, n: usize) -> Turn
     if !pass_samples(n) {
         return ended_by(s, Ended::Cut);
     }
-    let sound = played(s, &bytes);
+    let sound = played(s, rate, subframes, &bytes);
     let refusal = sound.refusal;
     let state = sound.state;
     let samples = sound.bytes;
@@ -250,7 +250,7 @@ fn say_tally(t: Tally) {
     say(b" refused\n");
 }
 
-fn play_records(s: SilkDecoderState, n: usize, records: u32)
+fn play_records(s: SilkDecoderState, rate: i32, subframes: i32, n: usize, records: u32)
     requires { ⌜ n ≤ 640 ⌝ }
 {
     let mut state = s;
@@ -260,7 +260,7 @@ fn play_records(s: SilkDecoderState, n: usize, records: u32)
         refused: 0,
     };
     for i in 0..records {
-        let turn = next(state, n);
+        let turn = next(state, rate, subframes, n);
         let ended = turn.ended;
         let new = turn.state;
         state = new;
@@ -304,7 +304,13 @@ fn play(h: Head) {
     }
     let made = set_up(rate, subframes);
     let s = made.state;
-    play_records(s, 2 * shape::frame_length(rate, subframes), h.records);
+    play_records(
+        s,
+        rate,
+        subframes,
+        2 * shape::frame_length(rate, subframes),
+        h.records,
+    );
 }
 
 fn main() {

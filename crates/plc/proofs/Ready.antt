@@ -50,6 +50,15 @@ module _ (p : Shape) (h : SilkPLCState) (b : Shaped (p .rate) (p .subframes)) wh
       go true e = f .held (sym (eqℤ-true (pos (p .rate)) (h .«fs_khz») e))
       go false e = reset-held
 
+-- reset or not, it is held for the rate then
+pub ready-rate : (p : Shape) (h : SilkPLCState) → plcReady p h .«fs_khz» ≡ pos (p .rate)
+unfolding plcReady plcReset
+ready-rate p h = go (eqℤ (pos (p .rate)) (h .«fs_khz»)) refl
+  where
+    go : (b : Bool) → eqℤ (pos (p .rate)) (h .«fs_khz») ≡ b → cond b h (plcReset p h) .«fs_khz» ≡ pos (p .rate)
+    go true e = sym (eqℤ-true (pos (p .rate)) (h .«fs_khz») e)
+    go false e = refl
+
 pub one-more : (n : ℕ) → n < 2 ^ 31 → eqℤ (pos n) (pos 2147483647) ≡ false → wrap32 (pos n +ℤ pos 1) ≡ pos n +ℤ pos 1
 one-more n h e = go (ltb n 2147483647) refl
   where

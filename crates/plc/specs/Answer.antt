@@ -11,7 +11,7 @@ use Rattle.decoder.specs.Outcome.{Outcome}
 use Rattle.decoder.specs.declared.SilkDecoderState.{SilkDecoderState}
 use Rattle.decoder.specs.declared.SilkDecoderControl.{SilkDecoderControl}
 use Rattle.decoder.specs.declared.Params.{Params}
-use Rattle.judge.specs.Rows.{plcReceivedRows, lostRows}
+use Rattle.judge.specs.Rows.{plcReceivedRows, plcLostRows}
 use Rattle.plc.specs.Update.{plcUpdate}
 use Rattle.plc.specs.Conceal.{plcConceal}
 use Rattle.plc.specs.declared.PlcAnswer.{PlcAnswer}
@@ -26,7 +26,7 @@ plcReceived s q c rows =
 -- a lost frame
 module _ (s : SilkDecoderState) (c : SilkDecoderControl) (output : List ℤ) where
   unfoldable pub plcLostRefusal : Refusal
-  plcLostRefusal = firstOf (lostRows s (length output))
+  plcLostRefusal = firstOf (plcLostRows s (length output))
 
   abbrev pub plcLostOutcome : Outcome
   plcLostOutcome = plcConceal (shapeOf s) s c

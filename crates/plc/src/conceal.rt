@@ -627,7 +627,7 @@ pub fn plc_conceal(s: SilkDecoderState, c: SilkDecoderControl, xq: &mut [i16]) -
 pub fn silk_plc_lost(s: SilkDecoderState, c: SilkDecoderControl, xq: &mut [i16]) -> PlcLostAnswer
     ensures { λ r. ⌜ (r ≡ plcLost s c (now (xq .entry))) × (now (xq .exit) ≡ plcLostOutput s c (now (xq .entry))) ⌝ }
 {
-    let refusal = judge::lost(s, xq.len());
+    let refusal = judge::plc_lost(s, xq.len());
     if refusal::number(refusal) != 0 {
         return PlcLostAnswer {
             refusal,

@@ -15,7 +15,7 @@ use Rattle.decode_core.specs.Answer.{coreAnswer, coreOutput}
 use Rattle.decode_frame.specs.Call.{frameCall as wholeCall}
 use Rattle.decode_frame.specs.Answer.{frameAnswer, frameOutput}
 use Rattle.layout.specs.Layout.{shortState, stateIn, withWords, withHalves}
-use Rattle.layout.specs.Frame.{shortFrame, shortCall, frameIn, paramsIn, controlIn, tapless, rowsIn, linesIn, withLags, withTaps}
+use Rattle.layout.specs.Frame.{shortFrame, shortCall, frameIn, rateIn, subframesIn, paramsIn, controlIn, tapless, rowsIn, linesIn, withLags, withTaps}
 use Rattle.post.specs.Calls.{Slices, slices, Called, called}
 
 -- a slice is too short: one of a state's, of a state's and a frame's, or of these and the coefficients
@@ -50,10 +50,10 @@ setUpCall rate subframes m =
     let a = setUp rate subframes in
     called (stateShort m) (a .refusal) (withState m (a .state) (m .output)) m
 
--- a whole frame
+-- a whole frame, at the rate and the count of subframes that come with it
 unfoldable pub playedCall : Frame → Slices → Called
 playedCall f m =
-    let x = wholeCall f (controlOf m) (rowsIn (m .coefs)) (linesIn (m .coefs)) (m .pulses) (m .output) in
+    let x = wholeCall (rateIn (m .frame)) (subframesIn (m .frame)) f (controlOf m) (rowsIn (m .coefs)) (linesIn (m .coefs)) (m .pulses) (m .output) in
     let a = frameAnswer (stateOf m) x in
     called (callShort m) (a .refusal) (withControl m (a .state) (a .control) (frameOutput (stateOf m) x)) m
 

@@ -12,9 +12,11 @@ use layout::frame::keep_lags;
 use layout::frame::keep_taps;
 use layout::frame::lines_in;
 use layout::frame::params_in;
+use layout::frame::rate_in;
 use layout::frame::rows_in;
 use layout::frame::short_call;
 use layout::frame::short_frame;
+use layout::frame::subframes_in;
 use layout::frame::tapless;
 use layout::keep_state;
 use layout::short_state;
@@ -72,7 +74,9 @@ fn received(
     let c = control_in(frame, coefs);
     let rows = rows_in(coefs);
     let lines = lines_in(coefs);
-    let a = received_frame(s, q, c, rows, lines, pulses, output);
+    let rate = rate_in(frame);
+    let subframes = subframes_in(frame);
+    let a = received_frame(s, rate, subframes, q, c, rows, lines, pulses, output);
     let refusal = a.refusal;
     let played = a.state;
     let played_control = a.control;
@@ -97,7 +101,9 @@ fn lost(
 {
     let s = state_in(words, halves);
     let c = control_in(frame, coefs);
-    let a = lost_frame(s, c, output);
+    let rate = rate_in(frame);
+    let subframes = subframes_in(frame);
+    let a = lost_frame(s, rate, subframes, c, output);
     let refusal = a.refusal;
     let lost = a.state;
     let lost_control = a.control;

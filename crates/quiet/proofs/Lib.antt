@@ -7,4 +7,5 @@ pub mod Frame
 pub mod Frames
 pub mod Loudness
 pub mod Start
+pub mod Moved
 pub mod Rest

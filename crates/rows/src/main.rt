@@ -32,6 +32,8 @@ const SET_UP: i32 = 6;
 
 const PLAYED: i32 = 7;
 
+const PLC_LOST: i32 = 8;
+
 // The fields of a case by number.
 const FS_KHZ: i32 = 0;
 
@@ -534,7 +536,8 @@ fn made(khz: i32, nb_subfr: i32) -> i32 {
     number(refusal) as i32
 }
 
-fn judged(who: i32, x: Case) -> i32 {
+// A judge over a case; a whole frame brings a rate and a count of subframes.
+fn judged(who: i32, khz: i32, nb_subfr: i32, x: Case) -> i32 {
     let s = x.state;
     let c = x.control;
     let lines = x.lines;
@@ -543,10 +546,20 @@ fn judged(who: i32, x: Case) -> i32 {
     let output = lent(x.output);
     let length = lent(x.length);
     let refusal = match who {
-        RECEIVED => judge::frame(s, Frame::Received(q), c, lines, pulses, output),
-        LOST => judge::frame(s, Frame::Lost, c, lines, pulses, output),
+        RECEIVED => judge::frame(
+            s,
+            khz,
+            nb_subfr,
+            Frame::Received(q),
+            c,
+            lines,
+            pulses,
+            output,
+        ),
+        LOST => judge::frame(s, khz, nb_subfr, Frame::Lost, c, lines, pulses, output),
         CORE => judge::core(s, q, c, pulses, output),
         PLC_RECEIVED => judge::plc_received(s, q, c),
+        PLC_LOST => judge::plc_lost(s, output),
         GLUE => judge::glue(s, output, length),
         // 5
         _ => judge::cng(s, c, output, length),
@@ -558,17 +571,18 @@ fn answer(who: i32, khz: i32, nb_subfr: i32, x: Case) -> i32 {
     match who {
         SET_UP => made(khz, nb_subfr),
         PLAYED => played(khz, nb_subfr, lent(x.output)),
-        _ => judged(who, x),
+        _ => judged(who, khz, nb_subfr, x),
     }
 }
 
-// A case gives what is due.
-fn right(row: [i32; 64]) -> bool {
-    let khz = row[2];
-    let nb_subfr = row[3];
-    let x = changed(base(khz, nb_subfr), row[4], row[5]);
-    let y = changed(x, row[6], row[7]);
-    answer(row[1], khz, nb_subfr, y) == row[0]
+// A case gives what is due. A whole frame of one of ten numbers brings the last two, of another the shape that is held.
+fn right(row: [i32; 64], count: usize) -> bool {
+    let held = changed(base(row[2], row[3]), row[4], row[5]);
+    let x = changed(held, row[6], row[7]);
+    if count == 10 {
+        return answer(row[1], row[8], row[9], x) == row[0];
+    }
+    answer(row[1], row[2], row[3], x) == row[0]
 }
 
 struct Tally {
@@ -587,15 +601,15 @@ fn write_line(lines: u64) {
     io::write_all(STDOUT_FILENO, b"\n");
 }
 
-// A line that ends; one that holds no eight numbers is no case.
+// A line that ends; one that holds neither eight numbers nor ten is no case.
 fn tallied(t: Tally, l: Line) -> Tally {
     let mut new = t;
     new.lines = more(t.lines);
-    if l.count != 8 {
+    if (l.count != 8) & (l.count != 10) {
         return new;
     }
     let row = l.row;
-    if right(row) {
+    if right(row, l.count) {
         new.passed = more(t.passed);
     } else {
         write_line(new.lines);

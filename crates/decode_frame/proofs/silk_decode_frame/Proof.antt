@@ -1,5 +1,6 @@
-use mathlib.Core.Path.{sym, ap, _∙_}
+use mathlib.Core.Path.{sym, _∙_}
 use borrow.Author.Needs.{needs}
+use mir.Facts.{toZ-ofZ}
 use Rattle.decode_frame.specs.WholeFrame.{wholeFrame}
 use Rattle.decode_frame.specs.Call.{frameCall}
 use Rattle.decode_frame.specs.Answer.{frameRefusal, frameAnswer, frameOutput}
@@ -12,9 +13,12 @@ returns c =
     let e = c .before .lost-frame .ensures in
     let t = c .before .before .before in
     let a = t .before .before .args in
+    let f = t .before .before .fits in
+    let khz = toZ-ofZ (f .khz) in
+    let nb = toZ-ofZ (f .nb-subfr) in
     let was = sym (t .enum-told .given .1) in (
-      e .0 ∙ ap (λ f. frameAnswer (a .s) (frameCall f (a .c) (a .rows) (a .lines) (a .pulses .now) (a .xq .now))) was,
-      e .1 ∙ ap (λ f. frameOutput (a .s) (frameCall f (a .c) (a .rows) (a .lines) (a .pulses .now) (a .xq .now))) was,
+      e .0 ∙ λ i. frameAnswer (a .s) (frameCall (khz i) (nb i) (was i) (a .c) (a .rows) (a .lines) (a .pulses .now) (a .xq .now)),
+      e .1 ∙ λ i. frameOutput (a .s) (frameCall (khz i) (nb i) (was i) (a .c) (a .rows) (a .lines) (a .pulses .now) (a .xq .now)),
     )
 
 returns-2 : tie.Need-returns-2
@@ -22,9 +26,12 @@ returns-2 c =
     let e = c .before .received-frame .ensures in
     let t = c .before .before .before .before in
     let a = t .before .before .args in
+    let f = t .before .before .fits in
+    let khz = toZ-ofZ (f .khz) in
+    let nb = toZ-ofZ (f .nb-subfr) in
     let was = sym (t .f .given .1) in (
-      e .0 ∙ ap (λ f. frameAnswer (a .s) (frameCall f (a .c) (a .rows) (a .lines) (a .pulses .now) (a .xq .now))) was,
-      e .1 ∙ ap (λ f. frameOutput (a .s) (frameCall f (a .c) (a .rows) (a .lines) (a .pulses .now) (a .xq .now))) was,
+      e .0 ∙ λ i. frameAnswer (a .s) (frameCall (khz i) (nb i) (was i) (a .c) (a .rows) (a .lines) (a .pulses .now) (a .xq .now)),
+      e .1 ∙ λ i. frameOutput (a .s) (frameCall (khz i) (nb i) (was i) (a .c) (a .rows) (a .lines) (a .pulses .now) (a .xq .now)),
     )
 
 pub silk-decode-frame-spec : {M : Type 1} → statement M

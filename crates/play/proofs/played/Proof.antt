@@ -1,4 +1,5 @@
 use mathlib.Core.Path.{_∙_}
+use mir.Facts.{toZ-ofZ}
 use Rattle.stream.specs.Bytes.{sampleBytes}
 use Rattle.decode_frame.specs.Call.{frameCall}
 use Rattle.decode_frame.specs.Answer.{frameAnswer, frameOutput}
@@ -15,14 +16,16 @@ returns c =
     let y = x .before .before .before in
     let z = y .before .before in
     let s = z .before .args .s in
+    let h = toZ-ofZ (z .before .fits .rate) in
+    let n = toZ-ofZ (z .before .fits .subframes) in
     let f = z .frame-in .ensures in
     let k = y .before .control-in .ensures in
     let r = y .rows-in .ensures in
     let l = x .before .before .lines-in .ensures in
     let p = x .before .pulses-in .ensures in
     let q = x .silence .ensures in
-    let a = d .silk-decode-frame .ensures .0 ∙ λ i. frameAnswer s (frameCall (f i) (k i) (r i) (l i) (p i) (q i)) in
-    let o = d .silk-decode-frame .ensures .1 ∙ λ i. frameOutput s (frameCall (f i) (k i) (r i) (l i) (p i) (q i)) in
+    let a = d .silk-decode-frame .ensures .0 ∙ λ i. frameAnswer s (frameCall (h i) (n i) (f i) (k i) (r i) (l i) (p i) (q i)) in
+    let o = d .silk-decode-frame .ensures .1 ∙ λ i. frameOutput s (frameCall (h i) (n i) (f i) (k i) (r i) (l i) (p i) (q i)) in
     let e = c .samples-bytes .ensures ∙ λ i. sampleBytes (o i) 320 in
     λ i. record { refusal = a i .refusal; state = a i .state; bytes = e i }
 

@@ -10,7 +10,7 @@ use Rattle.decode_frame.specs.WholeFrame.{wholeFrame}
 use Rattle.decode_frame.specs.Call.{frameCall as wholeCall}
 use Rattle.decode_frame.specs.Answer.{frameRefusal, frameAnswer, frameOutput}
 use Rattle.layout.specs.Layout.{WORDS, HALVES, stateIn}
-use Rattle.layout.specs.Frame.{FRAME, COEFS, controlIn}
+use Rattle.layout.specs.Frame.{FRAME, COEFS, rateIn, subframesIn, controlIn}
 use Rattle.layout.proofs.Slices.{call-long}
 use Rattle.post.specs.Stages.{playedCall}
 use Rattle.post.proofs.Ends.{again, control-ended}
@@ -29,34 +29,44 @@ state-in-requires c κs = let l = long (c .before .before) in (l .0, l .1)
 control-in-requires : tie.Need-control-in-requires
 control-in-requires c κs = let l = long (c .before .before .before .before .before) in (l .2, omega (arith, l .3))
 
+rate-in-requires : tie.Need-rate-in-requires
+rate-in-requires c κs = long (c .before .before .before .before .before .before .before) .2
+
+subframes-in-requires : tie.Need-subframes-in-requires
+subframes-in-requires c κs = long (c .before .before .before .before .before .before .before .before .before) .2
+
 keep-state-requires : tie.Need-keep-state-requires
-keep-state-requires c κs = let l = long (c .before .before .before .before .before .before .before .before .before .before .before .before .before) in (l .0, l .1)
+keep-state-requires c κs = let l = long (c .before .before .before .before .before .before .before .before .before .before .before .before .before .before .before .before .before) in (l .0, l .1)
 
 keep-lags-requires : tie.Need-keep-lags-requires
-keep-lags-requires c κs = long (c .before .before .before .before .before .before .before .before .before .before .before .before .before .before .before .before .before) .2
+keep-lags-requires c κs = long (c .before .before .before .before .before .before .before .before .before .before .before .before .before .before .before .before .before .before .before .before .before) .2
 
 keep-taps-requires : tie.Need-keep-taps-requires
-keep-taps-requires c κs = long (c .before .before .before .before .before .before .before .before .before .before .before .before .before .before .before .before .before .before .before .before) .3
+keep-taps-requires c κs = long (c .before .before .before .before .before .before .before .before .before .before .before .before .before .before .before .before .before .before .before .before .before .before .before .before) .3
 
 returns : tie.Need-returns
 unfolding playedCall frameAnswer frameOutput frameRefusal wholeFrame
 returns c =
-    let b = c .before .before .before .before .before .before .before .before .before .before .before .before .before .before .before .before .before .before .before .before .before .before .before in
+    let b = c .before .before .before .before .before .before .before .before .before .before .before .before .before .before .before .before .before .before .before .before .before .before .before .before .before .before .before in
     let a = b .args in
-    let x = c .before .before .before .before .before .before .before .before .before .before .before .before .before .before .before .before .before .before .before .before .state-in .ensures in
-    let y = c .before .before .before .before .before .before .before .before .before .before .before .before .before .before .before .before .before .control-in .ensures in
+    let x = c .before .before .before .before .before .before .before .before .before .before .before .before .before .before .before .before .before .before .before .before .before .before .before .before .state-in .ensures in
+    let y = c .before .before .before .before .before .before .before .before .before .before .before .before .before .before .before .before .before .before .before .before .before .control-in .ensures in
+    let u = c .before .before .before .before .before .before .before .before .before .before .before .before .before .before .before .before .before .before .before .rate-in in
+    let v = c .before .before .before .before .before .before .before .before .before .before .before .before .before .before .before .before .before .subframes-in in
+    let k = kept w32 _ (u .ok) ∙ u .ensures in
+    let m = kept w32 _ (v .ok) ∙ v .ensures in
     let e = c .before .before .before .before .before .before .before .before .before .before .before .before .before .before .before .lost-frame .ensures in
-    let d = frameAnswer (stateIn (a .words .now) (a .halves .now)) (wholeCall Lost (controlIn (a .frame .now) (a .coefs .now)) [] [] [] (a .output .now)) in
-    let r = e .0 ∙ λ i. frameAnswer (x i) (wholeCall Lost (y i) [] [] [] (a .output .now)) in
+    let d = frameAnswer (stateIn (a .words .now) (a .halves .now)) (wholeCall (rateIn (a .frame .now)) (subframesIn (a .frame .now)) Lost (controlIn (a .frame .now) (a .coefs .now)) [] [] [] (a .output .now)) in
+    let r = e .0 ∙ λ i. frameAnswer (x i) (wholeCall (k i) (m i) Lost (y i) [] [] [] (a .output .now)) in
     control-ended _ _ _ _ _ _ _ _ (λ i. r i .refusal) (λ i. r i .state) (λ i. r i .control)
     (b .pre)
     (kept w32 _ (c .code .ok) ∙ c .code .ensures)
     (c .before .before .before .before .before .before .before .before .before .keep-state .ensures)
     (c .before .before .before .before .before .keep-lags .ensures)
     (c .before .before .keep-taps .ensures)
-    (e .1 ∙ (λ i. frameOutput (x i) (wholeCall Lost (y i) [] [] [] (a .output .now))) ∙ again (d .refusal) _ _)
+    (e .1 ∙ (λ i. frameOutput (x i) (wholeCall (k i) (m i) Lost (y i) [] [] [] (a .output .now))) ∙ again (d .refusal) _ _)
 
 pub lost-spec : {M : Type 1} → statement M
 lost-spec =
     tie.close
-    (tie.spec state-in-requires control-in-requires (λ c κs. tt) keep-state-requires keep-lags-requires keep-taps-requires (λ c κs. tt) (λ c. c .before .before .before .before .before .before .before .before .before .keep-state .kept .1 .1 .0) (λ c. c .before .before .before .before .before .before .before .before .before .keep-state .kept .1 .1 .1 .0) (λ c. c .before .before .before .before .before .keep-lags .kept .1 .1 .0) (λ c. c .before .before .keep-taps .kept .1 .1 .0) (λ c. c .before .before .before .before .before .before .before .before .before .before .before .before .before .before .before .lost-frame .kept .1 .1 .0) returns)
+    (tie.spec state-in-requires control-in-requires rate-in-requires subframes-in-requires (λ c κs. tt) keep-state-requires keep-lags-requires keep-taps-requires (λ c κs. tt) (λ c. c .before .before .before .before .before .before .before .before .before .keep-state .kept .1 .1 .0) (λ c. c .before .before .before .before .before .before .before .before .before .keep-state .kept .1 .1 .1 .0) (λ c. c .before .before .before .before .before .keep-lags .kept .1 .1 .0) (λ c. c .before .before .keep-taps .kept .1 .1 .0) (λ c. c .before .before .before .before .before .before .before .before .before .before .before .before .before .before .before .lost-frame .kept .1 .1 .1 .1 .0) returns)
