@@ -4,7 +4,7 @@
  * functions of filters (target/staticlib/libpost_filters.a); either archive may be linked alone.
  * Both are for x86-64 Linux alone. They call memcpy and memset and nothing else, and have no
  * variables of their own: calls on different states may run at the same time. A call takes up to
- * 30,664 bytes of stack (docs/BENCHMARKS.md).
+ * 31,496 bytes of stack (docs/BENCHMARKS.md).
  *
  * A slice is a pointer and the count of its elements. The slices of one call may not overlap, not
  * even pulses and output: the proofs rest on it.
