@@ -1,5 +1,5 @@
 // The decoder's state and frame description (decoder_structs.rs, define.rs), set-up, and the played part of the output.
-// Inner: every function but set_up and played.
+// Inner: every function but set_up, played and same_shape.
 use refusal::Refusal;
 use shape::Rate;
 use word::mul32;

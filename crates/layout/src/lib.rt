@@ -1,5 +1,5 @@
 // How a state and a frame lie in the slices that a program lends.
-// Inner: every function.
+// Inner: every function but put_is_read.
 pub mod frame;
 
 use decoder::SilkCNGState;
