@@ -12,10 +12,11 @@
  * Every function but post_played answers one of
  *     0           done
  *    -1           a slice is shorter than its POST_ size below
- *     1 to 13     the first refusal that applies (enum post_refusal)
+ *     1 to 22     the first refusal that applies (enum post_refusal)
  * of which -1 comes first. Pulses, output, buffer, coefficients and lines have no such size: 10 to
- * 13 say that they are too short. A call that does not answer 0 writes nothing. One that does leaves
- * what lies past a slice's size, past a frame's samples, past a length or past an order as it was.
+ * 13, or 17 of post_rising, say that they are too short. A call that does not answer 0 writes
+ * nothing. One that does leaves what lies past a slice's size, past a frame's samples, past a length
+ * or past an order as it was.
  *
  * r is the rate in kHz and n the count of subframes: in post_frame those that the frame brings, in
  * the stages alone those that the state holds, which are post_set_up's or the last played frame's. A
@@ -30,7 +31,8 @@
  *                conc_energy_shift, prev_gain_q16 (2, the later at 353), fs_khz, nb_subfr,
  *                subfr_length;
  *                s_cng: 357 cng_exc_buf_q14 (320), cng_synth_state (16), cng_smth_gain_q16,
- *                rand_seed, fs_khz
+ *                rand_seed, fs_khz;
+ *                settings, which set-up names and no call changes after it: 696 squelch, edition
  *     halves     0 out_buf (480); 480 prev_nlsf_q15 (16);
  *                s_plc: 496 ltp_coef_q14 (5), prev_lpc_q12 (16), rand_scale_q14,
  *                prev_ltp_scale_q14;
@@ -51,11 +53,12 @@ extern "C" {
 
 /* The least elements of these slices. */
 enum {
-    POST_WORDS = 696,
+    POST_WORDS = 698,
     POST_HALVES = 535,
     POST_FRAME = 16,
     POST_COEFS = 68,
     POST_ANSWER = 2,
+    POST_VALUE = 1,
     POST_TEXT = 64
 };
 
@@ -109,19 +112,36 @@ enum post_refusal {
     POST_PULSES = 10,      /* fewer than 5rn pulses */
     POST_SPEAKER = 11,     /* fewer than 5rn samples of output */
     POST_LENGTH = 12,      /* gluing or noise alone: length 0, above 320 or above the buffer */
-    POST_ORDER = 13        /* stability: order not 1 to 16; filter: not 10 or 16; or a slice of
+    POST_ORDER = 13,       /* stability: order not 1 to 16; filter: not 10 or 16; or a slice of
                               coefficients or lines is shorter than it */
+    POST_SQUELCH = 14,     /* set-up: squelch not in 0 to 10,000; in a state it is 3 */
+    POST_PLACE = 17,       /* cosine: place above 128; rising check: order not 10 or 16, or fewer lines */
+    POST_EDITION = 22      /* set-up, stability, filter: edition not 6716 or 8251; in a state it is 3 */
 };
 
-/* A state for 8, 12 or 16 kHz and 2 or 4 subframes. Refused by 1, 2. */
+/* Editions of the standard, by the number of their RFC. In the stability test under RFC 6716 as first
+ * published, a step that leaves 32 bits keeps its low 32 and the test goes on; with RFC 8251 the filter
+ * is unstable. They differ in nothing else. Under the older one the comfort noise of lines in no order
+ * may be loud and stay so; no rising lines are known to do it, and concealment never does. */
+enum post_edition { POST_RFC_6716 = 6716, POST_RFC_8251 = 8251 };
+
+/* A state for 8, 12 or 16 kHz and 2 or 4 subframes, with a squelch of 0 and the edition 8251. Refused by
+ * 1, 2. */
 int32_t post_set_up(int32_t rate, int32_t subframes,
                     int32_t *words, size_t words_len, int16_t *halves, size_t halves_len);
+
+/* The same with a squelch of 0 to 10,000 and an edition. From the loss on that makes loss_cnt the
+ * squelch, post_frame plays zeros for a lost frame, until one is received; the state and the lags change
+ * as without it, and the stages alone do not go by it. 0 means never. Refused by 1, 2, 14, 22. */
+int32_t post_set_up_with(int32_t rate, int32_t subframes, int32_t squelch, int32_t edition,
+                         int32_t *words, size_t words_len, int16_t *halves, size_t halves_len);
 
 /* A frame: 5rn samples into output; the state then holds its rate and its count of subframes. A
  * received one may have its first two lags and its first ten taps changed: after the loss of a voiced
  * frame at the same rate, where it is not voiced itself. Refused by 1 to 3 and 5 to 11. A lost one is
- * concealed. Of its frame only the first three places are read, and of coefs and pulses nothing, but
- * coefs must have its size; all four lags become the last concealed one. Refused by 1 to 4 and 11. */
+ * concealed, or plays zeros by the squelch. Of its frame only the first three places are read, and of
+ * coefs and pulses nothing, but coefs must have its size; all four lags become the last concealed one.
+ * Refused by 1 to 4 and 11. */
 int32_t post_frame(int32_t *words, size_t words_len, int16_t *halves, size_t halves_len,
                    int32_t *frame, size_t frame_len, int16_t *coefs, size_t coefs_len,
                    const int16_t *pulses, size_t pulses_len, int16_t *output, size_t output_len);
@@ -148,31 +168,41 @@ int32_t post_noise(int32_t *words, size_t words_len, int16_t *halves, size_t hal
 
 /* The functions of filters, in libpost_filters.a. */
 
-/* The stability test of a filter's first order coefficients, Q12. Its answer is one of these and a
- * value: the inverse gain, Q30, or the number of the step, which is the place of its coefficient,
- * from 0. The sum is tested first; then, from the last coefficient to the first, a step's
+/* The stability test of a filter's first order coefficients, Q12, under an edition. Its answer is one of
+ * these and a value: the inverse gain, Q30, or the number of the step, which is the place of its
+ * coefficient, from 0. The sum is tested first; then, from the last coefficient to the first, a step's
  * coefficient, its gain, and whether the step leaves 32 bits. */
 enum post_stability_answer {
     POST_STABLE = 0,            /* the value is the inverse gain, 107,374 to 1,073,741,824 */
     POST_SUM_LARGE = 1,         /* the coefficients add up to 4,096 or more; the value is 0 */
     POST_COEFFICIENT_LARGE = 2, /* a step's coefficient, Q24, is above 16,773,022 in size */
     POST_GAIN_SMALL = 3,        /* the gain, Q30, is below 107,374 after a step */
-    POST_STEP_OVERFLOW = 4      /* a step leaves 32 bits */
+    POST_STEP_OVERFLOW = 4      /* a step leaves 32 bits; never under POST_RFC_6716 */
 };
 
-/* The answer's number and its value. Refused by 13. */
-int32_t post_stability(const int16_t *coefficients, size_t coefficients_len, size_t order,
+/* The answer's number and its value. Refused by 13, 22. */
+int32_t post_stability(const int16_t *coefficients, size_t coefficients_len, size_t order, int32_t edition,
                        int32_t *answer, size_t answer_len);
 
 /* The answer as a sentence in ASCII, with zeros behind it up to POST_TEXT bytes: fixed words, and but
- * for the sum one number. No two answers share a sentence. Refused by 13. */
-int32_t post_sentence(const int16_t *coefficients, size_t coefficients_len, size_t order,
+ * for the sum one number. No two answers share a sentence. Refused by 13, 22. */
+int32_t post_sentence(const int16_t *coefficients, size_t coefficients_len, size_t order, int32_t edition,
                       uint8_t *text, size_t text_len);
 
-/* The first order coefficients, Q12, of the filter from as many line frequencies, Q15. Refused by 13,
- * then by 9. */
+/* The first order coefficients, Q12, of the filter from as many line frequencies, Q15, rising or not; it
+ * passes the stability test of its edition. A post's comfort noise has this filter from the lines in s_cng,
+ * where its fs_khz is the post's, under the post's edition. Refused by 13, then by 9, then by 22. */
 int32_t post_filter(int16_t *coefficients, size_t coefficients_len,
-                    const int16_t *lines, size_t lines_len, size_t order);
+                    const int16_t *lines, size_t lines_len, size_t order, int32_t edition);
+
+/* Entry place, 0 to 128, of the table from which that filter comes: twice the cosine of place/128 of half
+ * a turn, Q12, 8,192 to -8,192. Refused by 17. */
+int32_t post_cosine(size_t place, int32_t *value, size_t value_len);
+
+/* Whether the first order line frequencies, Q15, rise: 1 if the first is at least 3, each next one at
+ * least 3 above the last, and the last at most 32,765; else 0, also for a negative line. post_filter
+ * never refuses rising lines by 9. Refused by 17. */
+int32_t post_rising(const int16_t *lines, size_t lines_len, size_t order, int32_t *answer, size_t answer_len);
 
 #ifdef __cplusplus
 }

@@ -4,8 +4,8 @@
 use crate::call::{self, Call, Draft, What};
 use crate::draw::{self, Draw, SHAPES};
 use crate::post::Stability;
-use crate::reference::{STOP, STOPPED, read_state};
-use crate::{rows, streams};
+use crate::reference::{NEWER, OLDER, STOP, STOPPED, read_settings, read_state, under};
+use crate::{rows, streams, vectors};
 use std::fmt::Write;
 use std::fs;
 use std::path::Path;
@@ -13,7 +13,7 @@ use std::path::Path;
 const SEED: u64 = 1;
 /// Frames of each recorded stream.
 const RECORDS: usize = 45;
-/// Drawn calls of the stability test, and of the filter.
+/// Drawn calls of the stability test, of the filter, and of the rising check.
 const FILTERS: u64 = 200;
 /// Numbers after a line's first two: the program's row has 64.
 const PLACES: usize = 62;
@@ -31,6 +31,9 @@ fn number(what: What) -> usize {
         What::Played => 7,
         What::Stability => 8,
         What::Filter => 9,
+        What::Cosine => 10,
+        What::Rising => 11,
+        What::SetUpWith => 12,
         What::Sentence => unreachable!("crates/service has the sentences"),
     }
 }
@@ -58,8 +61,8 @@ struct List {
     calls: u64,
 }
 
-/// What the program crates/service writes for a line that is none of coefficients.
-const BAD_LINE: &str = "bad line: it is to have one to sixteen whole numbers of sixteen bits";
+/// What the program crates/service writes for a line that is none of an edition and coefficients.
+const BAD_LINE: &str = "bad line: it is to have an edition, 6716 or 8251, and one to sixteen whole numbers of sixteen bits";
 
 /// Writes, from the Rust, what the program crates/service must write for its standard input.
 pub fn write_sentences(folder: &Path) -> Result<(), String> {
@@ -69,8 +72,10 @@ pub fn write_sentences(folder: &Path) -> Result<(), String> {
     for line in input.lines() {
         let words = line.split([' ', '\t', '\r', ',']).filter(|word| !word.is_empty());
         let read: Option<Vec<i16>> = words.map(|word| word.parse().ok().filter(|_| whole(word))).collect();
-        let text = match read {
-            Some(a) if (1..=16).contains(&a.len()) => Stability::of(given::reason(&a, a.len())).to_string(),
+        let text = match read.as_deref().and_then(<[i16]>::split_first) {
+            Some((edition, a)) if [OLDER, NEWER].contains(&i32::from(*edition)) && (1..=16).contains(&a.len()) => {
+                Stability::of((under(i32::from(*edition)).reason)(a, a.len())).to_string()
+            }
             _ => BAD_LINE.into(),
         };
         writeln!(output, "{text}").unwrap();
@@ -129,10 +134,11 @@ impl List {
     /// Lines that make the kept numbers those of a call, one that makes it, and the Rust's answer.
     fn make(&mut self, mut call: Call) -> Result<i32, String> {
         let mut numbers = match call.what {
-            What::SetUp | What::Played => vec![call.rate as i64, call.subframes as i64],
-            What::Glue | What::Noise | What::Stability | What::Filter => {
+            What::SetUp | What::SetUpWith | What::Played => vec![call.rate as i64, call.subframes as i64],
+            What::Glue | What::Noise | What::Stability | What::Filter | What::Cosine | What::Rising => {
                 call.length = call.length.min(u32::MAX as usize);
-                vec![call.length as u32 as i32 as i64, 0]
+                let filter = matches!(call.what, What::Stability | What::Filter);
+                vec![call.length as u32 as i32 as i64, if filter { call.named.edition as i64 } else { 0 }]
             }
             _ => vec![0; 2],
         };
@@ -147,6 +153,10 @@ impl List {
         }
         for kept in SHORT {
             self.lend(&mut call, kept, &mut lent);
+        }
+        if call.what == What::SetUpWith {
+            // Set-up is lent neither frame nor coefficients.
+            (lent[2], lent[3]) = (call.named.squelch as i64, call.named.edition as i64);
         }
         numbers.extend(lent);
         while numbers.last() == Some(&0) {
@@ -229,7 +239,7 @@ impl List {
     fn stream(&mut self, file: &Path) -> Result<(), String> {
         let stream = streams::read(file)?;
         self.title("speech");
-        self.next(Draft::plain(What::SetUp, stream.rate, stream.subframes).call())?;
+        self.next(streams::set_up(&stream))?;
         stream.records.into_iter().take(RECORDS).try_for_each(|(record, _)| self.next(record).map(|_| ()))
     }
 
@@ -281,10 +291,10 @@ impl List {
         Ok(())
     }
 
-    /// The hand-made lists with changes of shape, from set-up.
+    /// The hand-made lists, from set-up.
     fn vectors(&mut self) -> Result<(), String> {
-        self.title("hand-made lists of changing shapes");
-        rows::VECTORS.iter().flat_map(rows::Vector::calls).try_for_each(|call| match self.next(call)? {
+        self.title("hand-made lists");
+        vectors::all().iter().flat_map(vectors::Vector::calls).try_for_each(|call| match self.next(call)? {
             0 => Ok(()),
             answer => Err(format!("call {}: a frame of a hand-made list is refused by {answer}", self.calls)),
         })
@@ -311,7 +321,8 @@ impl List {
     /// The same at a coming shape.
     fn frame_at(&mut self, draw: &mut Draw, shape: (i32, i32), what: What, signal: Option<i8>, broken: bool) -> Result<(), String> {
         let (dec, (rate, subframes)) = (self.state(), shape);
-        let mut draft = Draft { dec, ..Draft::plain(what, rate, subframes) };
+        let settings = read_settings(&self.kept.words);
+        let mut draft = Draft { dec, settings, ..Draft::plain(what, rate, subframes) };
         // Drawn until the type is the wanted one.
         loop {
             draw::frame(draw, &mut draft);
@@ -329,14 +340,14 @@ impl List {
         self.make(draft.call()).map(|_| ())
     }
 
-    /// The hand-made rows: of calls that play a frame, those that are refused or bring another shape; not the sentences, which the other
+    /// The hand-made rows: of calls that play a frame, those that are refused, and those of document 02; not the sentences, which the other
     /// program writes.
     fn rows(&mut self) -> Result<(), String> {
         self.title("the ends of the ranges");
         for row in rows::alone().into_iter().filter(|row| row.what != What::Sentence) {
             let mut call = row.call();
             let whole = matches!(row.what, What::Received | What::Lost | What::Core | What::PlcLost);
-            if !whole || row.changes() || call::reference(&mut call) != 0 {
+            if !whole || row.listed || call::reference(&mut call) != 0 {
                 self.make(row.call())?;
             }
         }
@@ -348,30 +359,29 @@ impl List {
         self.title("slices that are too short");
         for (what, ..) in What::ALL {
             let call = Draft::plain(what, 8, 2).call();
-            for (_, get, size) in call::LONG {
-                self.cut(&call, get, size)?;
+            for (_, get, sized) in call::LONG {
+                self.cut(&call, get, sized)?;
             }
-            for (_, get, size) in call::SHORT {
-                self.cut(&call, get, size)?;
+            for (_, get, sized) in call::SHORT {
+                self.cut(&call, get, sized)?;
             }
         }
         Ok(())
     }
 
-    fn cut<T>(&mut self, call: &Call, get: fn(&mut Call) -> &mut Vec<T>, size: usize) -> Result<(), String> {
+    fn cut<T>(&mut self, call: &Call, get: fn(&mut Call) -> &mut Vec<T>, sized: bool) -> Result<(), String> {
         let mut call = call.clone();
-        if size == 0 || get(&mut call).is_empty() {
+        if !sized || get(&mut call).pop().is_none() {
             return Ok(());
         }
-        get(&mut call).truncate(size - 1);
         self.next(call).map(|_| ())
     }
 
-    /// The stability test and the filter from lines on drawn calls.
+    /// The stability test, the filter from lines and the rising check on drawn calls.
     fn filters(&mut self) -> Result<(), String> {
-        self.title("stability and filter");
+        self.title("stability, filter and rising check");
         for case in 0..FILTERS {
-            for what in [What::Stability, What::Filter] {
+            for what in [What::Stability, What::Filter, What::Rising] {
                 self.make(draw::call(&mut Draw::new(SEED, what as u64, case), what))?;
             }
         }

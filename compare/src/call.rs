@@ -1,7 +1,7 @@
 //! One call of a function: its numbers and the slices that it is lent.
 
 use crate::draw::SHAPES;
-use crate::reference::{self, coef_fields, frame_fields, half_fields, word_fields};
+use crate::reference::{self, Settings, coef_fields, frame_fields, half_fields, setting_fields, word_fields};
 use given::silk::decoder_structs::{SilkDecoderControl, SilkDecoderState};
 use std::fmt::Write;
 
@@ -19,20 +19,26 @@ pub enum What {
     Stability,
     Filter,
     Sentence,
+    SetUpWith,
+    Cosine,
+    Rising,
 }
 
 impl What {
     /// Each call, its function's name without `post_`, or for `post_frame` its kind, and whether the library has the function.
-    pub const ALL: [(What, &'static str, bool); 12] = [
+    pub const ALL: [(What, &'static str, bool); 15] = [
         (What::Stability, "stability", cfg!(has_stability)),
         (What::Sentence, "sentence", cfg!(has_sentence)),
         (What::Filter, "filter", cfg!(has_filter)),
+        (What::Cosine, "cosine", cfg!(has_cosine)),
+        (What::Rising, "rising", cfg!(has_rising)),
         (What::Core, "core", cfg!(has_core)),
         (What::PlcReceived, "plc_received", cfg!(has_plc_received)),
         (What::PlcLost, "plc_lost", cfg!(has_plc_lost)),
         (What::Glue, "glue", cfg!(has_glue)),
         (What::Noise, "noise", cfg!(has_noise)),
         (What::SetUp, "set_up", cfg!(has_set_up)),
+        (What::SetUpWith, "set_up_with", cfg!(has_set_up_with)),
         (What::Played, "played", cfg!(has_played)),
         (What::Received, "received", cfg!(has_frame)),
         (What::Lost, "lost", cfg!(has_frame)),
@@ -54,17 +60,23 @@ pub struct Draft {
     /// With the subframes the shape of set-up or of the played part, or the one that comes with a frame.
     pub rate: i32,
     pub subframes: i32,
+    /// The settings that set-up names; of them a filter's call has the edition.
+    pub named: Settings,
     /// With the frame's signal type, offset type, interpolation and seed in its `indices`.
     pub dec: SilkDecoderState,
+    /// Those that the state holds.
+    pub settings: Settings,
     pub control: SilkDecoderControl,
     pub lines: [i16; 16],
+    /// How many of them a filter's call is lent; past the sixteenth they are 0.
+    pub lines_lent: usize,
     /// Numbers that stand in `frame` in place of those above: the place and the number.
     pub numbers: Vec<(usize, i32)>,
     pub pulses: Vec<i16>,
     /// The output, or the buffer of gluing or noise.
     pub output: Vec<i16>,
     pub coefficients: Vec<i16>,
-    /// The buffer's played length, or the filter's order.
+    /// The buffer's played length, the filter's order, or the place of a cosine.
     pub length: usize,
 }
 
@@ -73,19 +85,26 @@ impl Draft {
     pub fn plain(what: What, rate: i32, subframes: i32) -> Draft {
         let frame = (5 * rate * subframes) as usize;
         let control = SilkDecoderControl { pitch_l: [2 * rate; 4], gains_q16: [81_920; 4], ..Default::default() };
-        let filter = matches!(what, What::Stability | What::Sentence | What::Filter);
+        let length = match what {
+            What::Stability | What::Sentence | What::Filter | What::Rising => 16,
+            What::Cosine => 0,
+            _ => frame,
+        };
         Draft {
             what,
             rate,
             subframes,
+            named: Settings::default(),
             dec: reference::set_up(rate, subframes),
+            settings: Settings::default(),
             control,
             lines: [0; 16],
+            lines_lent: 16,
             numbers: vec![],
             pulses: vec![0; frame],
             output: vec![0; frame],
             coefficients: vec![0; 16],
-            length: if filter { 16 } else { frame },
+            length,
         }
     }
 
@@ -101,27 +120,35 @@ impl Draft {
         use What::*;
         let what = self.what;
         let takes = |all: &[What]| all.contains(&what);
-        let state = !takes(&[Played, Stability, Sentence, Filter]);
+        let state = !takes(&[Played, Stability, Sentence, Filter, Cosine, Rising]);
         let frame = takes(&[Received, Lost, Core, PlcReceived, PlcLost, Noise]);
         let coefs = takes(&[Received, Lost, Core, PlcReceived]);
+        let lines = (0..self.lines_lent).map(|k| self.lines.get(k).copied().unwrap_or(0));
+        let result = match what {
+            Stability => reference::ANSWER,
+            Cosine | Rising => reference::VALUE,
+            _ => 0,
+        };
         let mut call = Call {
             what,
             rate: self.rate,
             subframes: self.subframes,
+            named: self.named,
             length: self.length,
             words: vec![0; if state { reference::WORDS } else { 0 }],
             halves: vec![0; if state { reference::HALVES } else { 0 }],
             frame: vec![0; if frame { reference::FRAME } else { 0 }],
             coefs: vec![0; if coefs { reference::COEFS } else { 0 }],
-            lines: if takes(&[Filter]) { self.lines.to_vec() } else { vec![] },
+            lines: if takes(&[Filter, Rising]) { lines.collect() } else { vec![] },
             pulses: if takes(&[Received, Core]) { self.pulses } else { vec![] },
             output: if takes(&[Received, Lost, Core, PlcLost, Glue, Noise, Played]) { self.output } else { vec![] },
             coefficients: if takes(&[Stability, Sentence, Filter]) { self.coefficients } else { vec![] },
-            result: vec![0; if takes(&[Stability]) { reference::ANSWER } else { 0 }],
+            result: vec![0; result],
             text: vec![0; if takes(&[Sentence]) { reference::TEXT } else { 0 }],
         };
         if state {
             reference::write_state(&mut self.dec, &mut call.words, &mut call.halves);
+            reference::write_settings(self.settings, &mut call.words);
         }
         if frame {
             let small = self.dec.indices;
@@ -144,6 +171,7 @@ pub struct Call {
     pub what: What,
     pub rate: i32,
     pub subframes: i32,
+    pub named: Settings,
     pub length: usize,
     pub words: Vec<i32>,
     pub halves: Vec<i16>,
@@ -157,24 +185,21 @@ pub struct Call {
     pub text: Vec<u8>,
 }
 
-/// A slice of a call: its name, itself, and the size that it must have, or 0 where the call's numbers say it.
-pub type Slice<T> = (&'static str, fn(&mut Call) -> &mut Vec<T>, usize);
+/// A slice of a call: its name, itself, and whether it must have a size, which it has in a plain call; of the others the call's numbers say it.
+pub type Slice<T> = (&'static str, fn(&mut Call) -> &mut Vec<T>, bool);
 
-pub const LONG: [Slice<i32>; 3] = [
-    ("words", |c| &mut c.words, reference::WORDS),
-    ("frame", |c| &mut c.frame, reference::FRAME),
-    ("result", |c| &mut c.result, reference::ANSWER),
-];
+pub const LONG: [Slice<i32>; 3] =
+    [("words", |c| &mut c.words, true), ("frame", |c| &mut c.frame, true), ("result", |c| &mut c.result, true)];
 
-pub const BYTES: [Slice<u8>; 1] = [("text", |c| &mut c.text, reference::TEXT)];
+pub const BYTES: [Slice<u8>; 1] = [("text", |c| &mut c.text, true)];
 
 pub const SHORT: [Slice<i16>; 6] = [
-    ("halves", |c| &mut c.halves, reference::HALVES),
-    ("coefs", |c| &mut c.coefs, reference::COEFS),
-    ("lines", |c| &mut c.lines, 0),
-    ("pulses", |c| &mut c.pulses, 0),
-    ("output", |c| &mut c.output, 0),
-    ("coefficients", |c| &mut c.coefficients, 0),
+    ("halves", |c| &mut c.halves, true),
+    ("coefs", |c| &mut c.coefs, true),
+    ("lines", |c| &mut c.lines, false),
+    ("pulses", |c| &mut c.pulses, false),
+    ("output", |c| &mut c.output, false),
+    ("coefficients", |c| &mut c.coefficients, false),
 ];
 
 /// Makes a call of the reference, in place.
@@ -183,6 +208,7 @@ pub fn reference(c: &mut Call) -> i32 {
     let (words, halves, frame, coefs, output) = (&mut c.words, &mut c.halves, &mut c.frame, &mut c.coefs, &mut c.output);
     match c.what {
         What::SetUp => post_set_up(c.rate, c.subframes, words, halves),
+        What::SetUpWith => post_set_up_with(c.rate, c.subframes, c.named, words, halves),
         What::Received | What::Lost => post_frame(words, halves, frame, coefs, &c.pulses, output),
         What::Core => post_core(words, halves, frame, coefs, &c.pulses, output),
         What::PlcReceived => post_plc_received(words, halves, frame, coefs),
@@ -190,15 +216,17 @@ pub fn reference(c: &mut Call) -> i32 {
         What::Glue => post_glue(words, halves, output, c.length),
         What::Noise => post_noise(words, halves, frame, output, c.length),
         What::Played => post_played(c.rate, c.subframes, output),
-        What::Stability => post_stability(&c.coefficients, c.length, &mut c.result),
-        What::Sentence => post_sentence(&c.coefficients, c.length, &mut c.text),
-        What::Filter => post_filter(&mut c.coefficients, &c.lines, c.length),
+        What::Stability => post_stability(&c.coefficients, c.length, c.named.edition, &mut c.result),
+        What::Sentence => post_sentence(&c.coefficients, c.length, c.named.edition, &mut c.text),
+        What::Filter => post_filter(&mut c.coefficients, &c.lines, c.length, c.named.edition),
+        What::Cosine => post_cosine(c.length, &mut c.result),
+        What::Rising => post_rising(&c.lines, c.length, &mut c.result),
     }
 }
 
 /// The name of a place in a slice.
 pub fn place(slice: &str, index: usize) -> String {
-    fn named<T, const N: usize>(fields: [(&str, &mut [T]); N], index: usize) -> Option<String> {
+    fn named<'a, T: 'a>(fields: impl IntoIterator<Item = (&'a str, &'a mut [T])>, index: usize) -> Option<String> {
         let mut at = index;
         for (name, field) in fields {
             if at < field.len() {
@@ -209,7 +237,7 @@ pub fn place(slice: &str, index: usize) -> String {
         None
     }
     let name = match slice {
-        "words" => named(word_fields(&mut Default::default()), index),
+        "words" => named(word_fields(&mut Default::default()).into_iter().chain(setting_fields(&mut Default::default())), index),
         "halves" => named(half_fields(&mut Default::default()), index),
         "frame" => named(frame_fields(&mut Default::default()), index),
         "coefs" => named(coef_fields(&mut Default::default()), index),
@@ -222,7 +250,10 @@ pub fn place(slice: &str, index: usize) -> String {
 pub fn written(call: &Call, plain: &Call) -> String {
     let (mut call, mut plain) = (call.clone(), plain.clone());
     let mut text = format!("  {}, else as plain at {} kHz with {} subframes:\n", call.what.name(), plain.rate, plain.subframes);
-    let numbers = |c: &Call| [("rate", c.rate as i64), ("subframes", c.subframes as i64), ("length", c.length as i64)];
+    let numbers = |c: &Call| {
+        let [rate, subframes, squelch, edition] = [c.rate, c.subframes, c.named.squelch, c.named.edition].map(i64::from);
+        [("rate", rate), ("subframes", subframes), ("squelch", squelch), ("edition", edition), ("length", c.length as i64)]
+    };
     for ((name, value), (_, usual)) in numbers(&call).into_iter().zip(numbers(&plain)) {
         if value != usual {
             writeln!(text, "    {name} = {value}").unwrap();

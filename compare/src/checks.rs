@@ -3,7 +3,8 @@
 use crate::call::{self, BYTES, Call, Draft, LONG, SHORT, What, place, written};
 use crate::draw::{self, Draw, SHAPES};
 use crate::post::ffi::frame::{RATE, SUBFRAMES};
-use crate::reference::{STOP, STOPPED, read_state};
+use crate::post::ffi::words::EDITION;
+use crate::reference::{NEWER, OLDER, STOP, STOPPED, read_state, squelched};
 use crate::shrink::shrink;
 use crate::{ffi, firmware, rows, streams};
 use std::collections::BTreeMap;
@@ -67,20 +68,32 @@ impl Options {
         print!("{}", written(&smallest, &plain));
     }
 
-    /// One function on drawn calls.
+    /// One function on drawn calls, each of which is made under the other edition too, where it goes by one.
     pub fn function(&self, what: What) -> bool {
-        let mut answers = BTreeMap::new();
+        let (mut answers, mut editions, mut apart) = (BTreeMap::new(), 0, 0);
         for case in self.from..self.from + self.count {
             let call = draw::call(&mut Draw::new(self.seed, what as u64, case), what);
-            match self.both(&call) {
-                Ok((answer, _)) => *answers.entry(answer).or_insert(0) += 1,
-                Err(why) => {
-                    self.report(&format!("{}: case {case} of seed {}", what.name(), self.seed), call, why);
-                    return false;
+            let other = other_edition(&call);
+            let mut made = vec![];
+            for call in std::iter::once(call).chain(other) {
+                match self.both(&call) {
+                    Ok(both) => made.push(both),
+                    Err(why) => {
+                        self.report(&format!("{}: case {case} of seed {}", what.name(), self.seed), call, why);
+                        return false;
+                    }
                 }
+            }
+            *answers.entry(made[0].0).or_insert(0) += 1;
+            if let [(_, one), (_, other)] = &made[..] {
+                editions += 1;
+                apart += differs(one, other) as u64;
             }
         }
         println!("{}: {} calls equal; {}", what.name(), self.count, told(&answers));
+        if editions > 0 {
+            println!("{}: {editions} of them made under both editions, {apart} with another result", what.name());
+        }
         true
     }
 
@@ -88,7 +101,7 @@ impl Options {
     /// set-up, and from an accepted state only at another rate.
     pub fn lists(&self) -> bool {
         let (mut answers, mut frames, mut list, mut longest) = (BTreeMap::new(), 0, self.from, 0);
-        let (mut rates, mut counts) = (0, 0);
+        let (mut rates, mut counts, mut silent) = (0, 0, 0);
         while frames < self.count {
             let draw = &mut Draw::new(self.seed, 99, list);
             let (rate, subframes) = draw.pick(&SHAPES);
@@ -97,6 +110,7 @@ impl Options {
             if !fresh {
                 draft.dec = draw::state(draw);
             }
+            draft.settings = draw::settings(draw, &draft.dec);
             let (mut left, mut lost, mut row, mut counted) = (draw.pick(&[3, 10, 30, 100]), false, 0, 0);
             while left > 0 && frames < self.count {
                 if row == 0 {
@@ -132,6 +146,7 @@ impl Options {
                     Ok((answer, after)) => {
                         rates += (answer == 0 && after.frame[RATE] != draft.dec.fs_khz) as u64;
                         counts += (answer == 0 && after.frame[SUBFRAMES] != draft.dec.nb_subfr) as u64;
+                        silent += (answer == 0 && lost && squelched(&draft.dec, draft.settings)) as u64;
                         *answers.entry(answer).or_insert(0) += 1;
                         counted = if lost { counted + (answer == 0) as u64 } else { counted * (answer != 0) as u64 };
                         longest = longest.max(counted);
@@ -147,7 +162,7 @@ impl Options {
         }
         let lists = list - self.from;
         println!("lists: {frames} frames in {lists} lists equal, {rates} played at a new rate and {counts} with a new count of subframes");
-        println!("lists: at most {longest} losses in a row; {}", told(&answers));
+        println!("lists: at most {longest} losses in a row, {silent} squelched; {}", told(&answers));
         true
     }
 
@@ -176,7 +191,7 @@ impl Options {
 
     /// A stream, played by the reference and, where it has the functions, by the library.
     pub fn stream(&self, file: &Path) -> bool {
-        let library = [What::SetUp, What::Received, What::Lost].iter().all(|what| self.has(*what));
+        let library = [What::SetUpWith, What::Received, What::Lost].iter().all(|what| self.has(*what));
         let played = streams::read(file).and_then(|stream| {
             streams::play_as_recorded(&stream, |call| Ok(call::reference(call)))
                 .map_err(|why| format!("{}: the reference: {why}", stream.name))?;
@@ -211,6 +226,33 @@ impl Options {
     }
 }
 
+/// The call under the other edition, where it goes by one.
+fn other_edition(call: &Call) -> Option<Call> {
+    let mut other = call.clone();
+    let edition = match call.what {
+        What::SetUp | What::SetUpWith | What::Played | What::Cosine | What::Rising => return None,
+        What::Stability | What::Sentence | What::Filter => &mut other.named.edition,
+        _ => other.words.get_mut(EDITION)?,
+    };
+    *edition = match *edition {
+        OLDER => NEWER,
+        NEWER => OLDER,
+        _ => return None,
+    };
+    Some(other)
+}
+
+/// Whether two calls left other numbers, the edition aside.
+fn differs(one: &Call, other: &Call) -> bool {
+    let (mut one, mut other) = (one.clone(), other.clone());
+    if let Some(edition) = one.words.get_mut(EDITION) {
+        *edition = other.words[EDITION];
+    }
+    LONG.iter().any(|(_, get, _)| get(&mut one) != get(&mut other))
+        || SHORT.iter().any(|(_, get, _)| get(&mut one) != get(&mut other))
+        || BYTES.iter().any(|(_, get, _)| get(&mut one) != get(&mut other))
+}
+
 /// The examples in C and Rust, built and run by their script.
 pub fn examples(script: &OsStr, streams: &Path) -> bool {
     match Command::new(script).arg(streams).status() {
@@ -222,8 +264,11 @@ pub fn examples(script: &OsStr, streams: &Path) -> bool {
     }
 }
 
-/// A fault for a test: shows only where the input has a large third number.
+/// A fault for a test: shows only where the input has a large third number, or a large place of a cosine.
 fn harm(before: &Call, after: &mut Call) {
+    if before.what == What::Cosine && before.length > 64 {
+        after.result.iter_mut().for_each(|value| *value ^= 1);
+    }
     let third = [&before.halves, &before.coefs, &before.lines, &before.coefficients, &before.output]
         .iter()
         .find_map(|numbers| numbers.get(2).copied());

@@ -2,7 +2,7 @@
 
 use crate::call::{Call, What, place};
 use crate::post::{Description, Params, Post, Refusal, Shape, ffi};
-use crate::reference::{self, read_frame, read_into, write_state};
+use crate::reference::{self, NEWER, Settings, read_frame, read_into, write_settings, write_state};
 use crate::streams::Stream;
 use given::range_coder::RangeCoder;
 use given::silk::decode_frame::{self, FLAG_DECODE_LBRR, FLAG_DECODE_NORMAL, FLAG_PACKET_LOST};
@@ -13,10 +13,11 @@ use given::silk::define::MAX_FRAME_LENGTH;
 use given::silk::structs::SideInfoIndices;
 use std::cell::RefCell;
 
-/// A post in the state that the last frame left.
+/// A post in the state that the last frame left. It has no squelch, and the edition 8251, as the Rust.
 pub fn post_of(ps_dec: &mut SilkDecoderState) -> Post {
     let (mut words, mut halves) = ([0; ffi::WORDS], [0; ffi::HALVES]);
     write_state(ps_dec, &mut words, &mut halves);
+    write_settings(Settings { squelch: 0, edition: NEWER }, &mut words);
     Post::from_parts(words, halves)
 }
 

@@ -7,6 +7,7 @@ mod checks;
 mod draw;
 mod ffi;
 mod firmware;
+mod library;
 #[allow(unused)]
 #[rustfmt::skip]
 mod mirror;
@@ -18,7 +19,9 @@ mod post;
 mod reference;
 mod rows;
 mod shrink;
+mod side;
 mod streams;
+mod vectors;
 
 use call::What;
 use checks::Options;
@@ -35,8 +38,8 @@ fn main() -> ExitCode {
     std::panic::set_hook(Box::new(|why| *reference::STOP.lock().unwrap() = why.to_string()));
     let done = catch_unwind(|| match texts[..] {
         ["run", ..] => run(&texts[1..]),
-        ["bench", folder, ref options @ ..] if options.iter().all(|option| ["--self", "--time"].contains(option)) => {
-            bench::bench(Path::new(folder), options.contains(&"--self"), options.contains(&"--time")).map(|()| true)
+        ["bench", folder, own, only_time, ref sides @ ..] => {
+            bench::bench(Path::new(folder), own == "--self", only_time == "--time", sides).map(|()| true)
         }
         ["record", from, to] => streams::record(Path::new(from), Path::new(to)).map(|()| true),
         ["answers", streams, crates] => {
@@ -45,7 +48,8 @@ fn main() -> ExitCode {
                 .and_then(|()| answers::write(Path::new(streams), &crates.join("replay")))
                 .map(|()| true)
         }
-        ["count", folder, shape] => bench::count(Path::new(folder), shape).map(|()| true),
+        ["count", folder, shape, ref sides @ ..] => bench::count(Path::new(folder), shape, sides).map(|()| true),
+        ["time", folder, shape, ref sides @ ..] => bench::time(Path::new(folder), shape, sides).map(|()| true),
         _ => Err(USAGE.into()),
     });
     match done.unwrap_or_else(|_| Err(reference::STOP.lock().unwrap().clone())) {

@@ -1,6 +1,6 @@
 //! The reference in the library's place: each exported function that the library lacks.
 
-use crate::reference;
+use crate::reference::{self, Settings};
 use std::slice::{from_raw_parts as part, from_raw_parts_mut as part_mut};
 
 type Longs = *mut i32;
@@ -10,6 +10,12 @@ type Shorts = *mut i16;
 #[unsafe(no_mangle)]
 unsafe extern "C" fn post_set_up(rate: i32, subframes: i32, w: Longs, wn: usize, h: Shorts, hn: usize) -> i32 {
     unsafe { reference::post_set_up(rate, subframes, part_mut(w, wn), part_mut(h, hn)) }
+}
+
+#[cfg(not(has_set_up_with))]
+#[unsafe(no_mangle)]
+unsafe extern "C" fn post_set_up_with(rate: i32, subframes: i32, squelch: i32, edition: i32, w: Longs, wn: usize, h: Shorts, hn: usize) -> i32 {
+    unsafe { reference::post_set_up_with(rate, subframes, Settings { squelch, edition }, part_mut(w, wn), part_mut(h, hn)) }
 }
 
 #[cfg(not(has_frame))]
@@ -58,18 +64,30 @@ unsafe extern "C" fn post_played(rate: i32, subframes: i32, o: Shorts, on: usize
 
 #[cfg(not(has_stability))]
 #[unsafe(no_mangle)]
-unsafe extern "C" fn post_stability(a: Shorts, an: usize, order: usize, r: Longs, rn: usize) -> i32 {
-    unsafe { reference::post_stability(part(a, an), order, part_mut(r, rn)) }
+unsafe extern "C" fn post_stability(a: Shorts, an: usize, order: usize, edition: i32, r: Longs, rn: usize) -> i32 {
+    unsafe { reference::post_stability(part(a, an), order, edition, part_mut(r, rn)) }
 }
 
 #[cfg(not(has_sentence))]
 #[unsafe(no_mangle)]
-unsafe extern "C" fn post_sentence(a: Shorts, an: usize, order: usize, t: *mut u8, tn: usize) -> i32 {
-    unsafe { reference::post_sentence(part(a, an), order, part_mut(t, tn)) }
+unsafe extern "C" fn post_sentence(a: Shorts, an: usize, order: usize, edition: i32, t: *mut u8, tn: usize) -> i32 {
+    unsafe { reference::post_sentence(part(a, an), order, edition, part_mut(t, tn)) }
 }
 
 #[cfg(not(has_filter))]
 #[unsafe(no_mangle)]
-unsafe extern "C" fn post_filter(a: Shorts, an: usize, l: Shorts, ln: usize, order: usize) -> i32 {
-    unsafe { reference::post_filter(part_mut(a, an), part(l, ln), order) }
+unsafe extern "C" fn post_filter(a: Shorts, an: usize, l: Shorts, ln: usize, order: usize, edition: i32) -> i32 {
+    unsafe { reference::post_filter(part_mut(a, an), part(l, ln), order, edition) }
+}
+
+#[cfg(not(has_cosine))]
+#[unsafe(no_mangle)]
+unsafe extern "C" fn post_cosine(place: usize, v: Longs, vn: usize) -> i32 {
+    unsafe { reference::post_cosine(place, part_mut(v, vn)) }
+}
+
+#[cfg(not(has_rising))]
+#[unsafe(no_mangle)]
+unsafe extern "C" fn post_rising(l: Shorts, ln: usize, order: usize, r: Longs, rn: usize) -> i32 {
+    unsafe { reference::post_rising(part(l, ln), order, part_mut(r, rn)) }
 }

@@ -13,6 +13,15 @@ pub fn silk_bwexpander(ar: &mut [i16], d: usize, chirp_q16: i32) {
 
 /// The first d samples are 0; each other is the rounded (Q12), saturated difference of the sample and the products' sum; both wrap.
 pub fn silk_lpc_analysis_filter(out: &mut [i16], input: &[i16], b: &[i16], len: usize, d: usize, _arch: i32) {
+    match d {
+        10 if cfg!(feature = "constant_order") => filtered(out, input, b, len, 10),
+        16 if cfg!(feature = "constant_order") => filtered(out, input, b, len, 16),
+        _ => filtered(out, input, b, len, d),
+    }
+}
+
+#[inline(always)]
+fn filtered(out: &mut [i16], input: &[i16], b: &[i16], len: usize, d: usize) {
     let (out, input, b) = (&mut out[..len], &input[..len], &b[..d]);
     out[..d].fill(0);
     for (played, samples) in out[d..].iter_mut().zip(input.windows(d + 1)) {
@@ -34,12 +43,23 @@ pub fn because(number: u8, step: usize) -> i32 {
     0
 }
 
-/// The stability test's answer: 0 and the inverse gain, or the number of the return that was reached and its step.
-pub fn reason(a_q12: &[i16], order: usize) -> [i32; 2] {
-    let gain = crate::silk::lpc_reasons::silk_lpc_inverse_pred_gain(a_q12, order);
-    assert_eq!(gain, crate::silk::lpc_analysis::silk_lpc_inverse_pred_gain(a_q12, order));
+/// The stability test's answer: 0 and the inverse gain, or the number of the return that was reached and its step. Both functions are the
+/// test, the second with its returns numbered.
+fn reason_of(plain: fn(&[i16], usize) -> i32, numbered: fn(&[i16], usize) -> i32, a_q12: &[i16], order: usize) -> [i32; 2] {
+    let gain = numbered(a_q12, order);
+    assert_eq!(gain, plain(a_q12, order));
     let (number, step) = WHY.get();
     if gain == 0 { [number as i32, step as i32] } else { [0, gain] }
+}
+
+pub fn reason(a_q12: &[i16], order: usize) -> [i32; 2] {
+    use crate::silk::{lpc_analysis, lpc_reasons};
+    reason_of(lpc_analysis::silk_lpc_inverse_pred_gain, lpc_reasons::silk_lpc_inverse_pred_gain, a_q12, order)
+}
+
+pub fn older_reason(a_q12: &[i16], order: usize) -> [i32; 2] {
+    use crate::older::silk::{lpc_analysis, lpc_reasons};
+    reason_of(lpc_analysis::silk_lpc_inverse_pred_gain, lpc_reasons::silk_lpc_inverse_pred_gain, a_q12, order)
 }
 
 pub mod range_coder {

@@ -1,16 +1,16 @@
-//! Every function of the library as the given Rust would have it: document 01's rows, then the Rust's own stage or frame.
+//! Every function of the library as the given Rust would have it: document 01's rows, then the Rust's own stage or frame. What document 02
+//! adds to the Rust, a change of shape, a squelch and the rising check, is written here; the older edition has a copy of its own.
 
-pub use crate::post::ffi::{ANSWER, COEFS, FRAME, HALVES, TEXT, WORDS};
+use crate::post::ffi::words::SQUELCH;
+pub use crate::post::ffi::{ANSWER, COEFS, FRAME, HALVES, TEXT, VALUE, WORDS};
 use crate::post::{Stability, ffi};
 use given::range_coder::RangeCoder;
-use given::reason;
-use given::silk::cng::silk_cng;
 use given::silk::decode_core::silk_decode_core;
-use given::silk::decode_frame::{FLAG_DECODE_NORMAL, FLAG_PACKET_LOST, silk_decode_frame};
+use given::silk::decode_frame::{FLAG_DECODE_NORMAL, FLAG_PACKET_LOST};
 use given::silk::decoder_structs::{SilkDecoderControl, SilkDecoderState};
-use given::silk::nlsf::silk_nlsf2a;
-use given::silk::plc::{silk_plc, silk_plc_glue_frames};
+use given::silk::plc::silk_plc_glue_frames;
 use given::silk::structs::SideInfoIndices;
+use given::silk::tables::SILK_LSF_COS_TAB_FIX_Q12;
 use std::panic::{AssertUnwindSafe, catch_unwind};
 use std::slice::from_mut as one;
 use std::sync::Mutex;
@@ -21,6 +21,44 @@ const TOO_SHORT: i32 = -1;
 pub const STOPPED: i32 = i32::MIN;
 /// What was said at the last stop.
 pub static STOP: Mutex<String> = Mutex::new(String::new());
+
+// The editions.
+
+/// RFC 6716 as first published, and with RFC 8251.
+pub const OLDER: i32 = 6716;
+pub const NEWER: i32 = 8251;
+
+/// What of the Rust tests a filter's stability, or calls what does.
+#[derive(Clone, Copy)]
+pub struct Tests {
+    pub frame: fn(&mut SilkDecoderState, &mut RangeCoder, &mut [i16], &mut i32, i32, i32) -> i32,
+    pub plc: fn(&mut SilkDecoderState, &mut SilkDecoderControl, &mut [i16], i32),
+    pub cng: fn(&mut SilkDecoderState, &SilkDecoderControl, &mut [i16], usize),
+    pub nlsf2a: fn(&mut [i16], &[i16], usize),
+    pub reason: fn(&[i16], usize) -> [i32; 2],
+}
+
+/// The Rust under an edition.
+pub fn under(edition: i32) -> Tests {
+    if edition == OLDER {
+        use given::older::silk::{cng, decode_frame, nlsf, plc};
+        return Tests {
+            frame: decode_frame::silk_decode_frame,
+            plc: plc::silk_plc,
+            cng: cng::silk_cng,
+            nlsf2a: nlsf::silk_nlsf2a,
+            reason: given::older_reason,
+        };
+    }
+    use given::silk::{cng, decode_frame, nlsf, plc};
+    Tests {
+        frame: decode_frame::silk_decode_frame,
+        plc: plc::silk_plc,
+        cng: cng::silk_cng,
+        nlsf2a: nlsf::silk_nlsf2a,
+        reason: given::reason,
+    }
+}
 
 // The library's form of the state and of a frame.
 
@@ -56,6 +94,24 @@ pub fn word_fields(dec: &mut SilkDecoderState) -> [(&'static str, &mut [i32]); 2
         ("s_cng.rand_seed", one(&mut cng.rand_seed)),
         ("s_cng.fs_khz", one(&mut cng.fs_khz)),
     ]
+}
+
+/// What set-up names and no frame changes.
+#[derive(Clone, Copy)]
+pub struct Settings {
+    pub squelch: i32,
+    pub edition: i32,
+}
+
+impl Default for Settings {
+    fn default() -> Settings {
+        Settings { squelch: 0, edition: NEWER }
+    }
+}
+
+/// The settings in the library's order; they stand behind the state's i32 fields.
+pub fn setting_fields(settings: &mut Settings) -> [(&'static str, &mut [i32]); 2] {
+    [("settings.squelch", one(&mut settings.squelch)), ("settings.edition", one(&mut settings.edition))]
 }
 
 /// The state's i16 fields in the library's order.
@@ -144,6 +200,16 @@ pub fn write_state(dec: &mut SilkDecoderState, words: &mut [i32], halves: &mut [
     write(half_fields(dec), halves);
 }
 
+pub fn read_settings(words: &[i32]) -> Settings {
+    let mut settings = Settings::default();
+    read(setting_fields(&mut settings), &words[SQUELCH..]);
+    settings
+}
+
+pub fn write_settings(mut settings: Settings, words: &mut [i32]) {
+    write(setting_fields(&mut settings), &mut words[SQUELCH..]);
+}
+
 /// The frame that numbers hold; without coefficients they are 0.
 pub fn read_frame(frame: &[i32], coefs: &[i16]) -> Frame {
     let mut read_in = Frame::default();
@@ -220,10 +286,20 @@ fn none_negative(lines: &[i16]) -> bool {
 }
 
 /// Rows 1 to 3 of a stage.
-fn judge_state(dec: &SilkDecoderState) -> Judged {
+fn judge_state(dec: &SilkDecoderState, settings: Settings) -> Judged {
     judge_rate(dec.fs_khz)?;
     judge_size(dec)?;
-    judge_history(dec)
+    judge_history(dec, settings)
+}
+
+/// A squelch's range, by a row: 14 of a set-up, 3 of a state.
+fn judge_squelch(row: i32, squelch: i32) -> Judged {
+    unless(row, (0..=10_000).contains(&squelch))
+}
+
+/// An edition, by a row: 22 of a call that names it, 3 of a state.
+fn judge_edition(row: i32, edition: i32) -> Judged {
+    unless(row, [OLDER, NEWER].contains(&edition))
 }
 
 /// Row 2 of a state that holds a rate.
@@ -234,7 +310,7 @@ fn judge_size(dec: &SilkDecoderState) -> Judged {
 }
 
 /// Row 3.
-fn judge_history(dec: &SilkDecoderState) -> Judged {
+fn judge_history(dec: &SilkDecoderState, settings: Settings) -> Judged {
     let r = dec.fs_khz;
     let order = dec.lpc_order as usize;
     let gain = 65_536..=1_686_110_208;
@@ -268,17 +344,19 @@ fn judge_history(dec: &SilkDecoderState) -> Judged {
                 && [(2, 20), (2, 5 * r), (4, 5 * r)].contains(&subframes),
     )?;
     let cng = &dec.s_cng;
-    unless(3, cng.fs_khz != r || none_negative(&cng.cng_smth_nlsf_q15[..order]) && (0..=1_686_110_208).contains(&cng.cng_smth_gain_q16))
+    unless(3, cng.fs_khz != r || none_negative(&cng.cng_smth_nlsf_q15[..order]) && (0..=1_686_110_208).contains(&cng.cng_smth_gain_q16))?;
+    judge_squelch(3, settings.squelch)?;
+    judge_edition(3, settings.edition)
 }
 
 /// Rows 1 to 3 of a whole frame: the held and the coming shape, each by itself, then the state as the coming one leaves it.
-fn judge_coming(dec: &mut SilkDecoderState, [rate, subframes]: [i32; 2]) -> Judged {
+fn judge_coming(dec: &mut SilkDecoderState, settings: Settings, [rate, subframes]: [i32; 2]) -> Judged {
     judge_rate(dec.fs_khz)?;
     judge_rate(rate)?;
     judge_size(dec)?;
     judge_count(subframes)?;
     change(dec, rate, subframes);
-    judge_history(dec)
+    judge_history(dec, settings)
 }
 
 /// Another shape in the middle of a call (document 02, Note 1).
@@ -290,6 +368,11 @@ fn change(dec: &mut SilkDecoderState, rate: i32, subframes: i32) {
         (dec.fs_khz, dec.subfr_length, dec.ltp_mem_length, dec.lpc_order) = (rate, 5 * rate, 20 * rate, order_at(rate));
     }
     (dec.nb_subfr, dec.frame_length) = (subframes, 5 * rate * subframes);
+}
+
+/// A loss now makes the count the squelch or more (document 02, Note 3).
+pub fn squelched(dec: &SilkDecoderState, settings: Settings) -> bool {
+    settings.squelch > 0 && i64::from(settings.squelch) <= i64::from(dec.loss_cnt) + 1
 }
 
 /// Rows 4, 11.
@@ -356,10 +439,17 @@ pub fn set_up(rate: i32, subframes: i32) -> SilkDecoderState {
 }
 
 pub fn post_set_up(rate: i32, subframes: i32, words: &mut [i32], halves: &mut [i16]) -> i32 {
+    post_set_up_with(rate, subframes, Settings::default(), words, halves)
+}
+
+pub fn post_set_up_with(rate: i32, subframes: i32, settings: Settings, words: &mut [i32], halves: &mut [i16]) -> i32 {
     answer(|| {
         judge_sizes(&[(words.len(), WORDS), (halves.len(), HALVES)])?;
         judge_shape(rate, subframes)?;
+        judge_squelch(14, settings.squelch)?;
+        judge_edition(22, settings.edition)?;
         write_state(&mut set_up(rate, subframes), words, halves);
+        write_settings(settings, words);
         Ok(())
     })
 }
@@ -370,7 +460,8 @@ pub fn post_frame(words: &mut [i32], halves: &mut [i16], frame: &mut [i32], coef
         let mut dec = read_state(words, halves);
         let brought = read_frame(frame, coefs);
         let mut coder = brought.coder(pulses);
-        judge_coming(&mut dec, brought.shape)?;
+        let settings = read_settings(words);
+        judge_coming(&mut dec, settings, brought.shape)?;
         let flag = if brought.received == 0 {
             judge_lost(&dec, output)?;
             FLAG_PACKET_LOST
@@ -382,7 +473,11 @@ pub fn post_frame(words: &mut [i32], halves: &mut [i16], frame: &mut [i32], coef
             judge_room(11, &dec, output)?;
             FLAG_DECODE_NORMAL
         };
-        run(|| silk_decode_frame(&mut dec, &mut coder, output, &mut 0, flag, 0))?;
+        let silent = flag == FLAG_PACKET_LOST && squelched(&dec, settings);
+        run(|| (under(settings.edition).frame)(&mut dec, &mut coder, output, &mut 0, flag, 0))?;
+        if silent {
+            output[..dec.frame_length as usize].fill(0);
+        }
         write_state(&mut dec, words, halves);
         keep(&brought.control, &coder.control, frame, coefs);
         Ok(())
@@ -396,7 +491,7 @@ pub fn post_core(words: &mut [i32], halves: &mut [i16], frame: &mut [i32], coefs
         let brought = read_frame(frame, coefs);
         dec.indices = brought.indices();
         let mut description = brought.control.clone();
-        judge_state(&dec)?;
+        judge_state(&dec, read_settings(words))?;
         judge_description(&dec, &description)?;
         judge_room(10, &dec, pulses)?;
         judge_room(11, &dec, output)?;
@@ -414,9 +509,10 @@ pub fn post_plc_received(words: &mut [i32], halves: &mut [i16], frame: &[i32], c
         let brought = read_frame(frame, coefs);
         dec.indices = brought.indices();
         let mut description = brought.control;
-        judge_state(&dec)?;
+        let settings = read_settings(words);
+        judge_state(&dec, settings)?;
         judge_description(&dec, &description)?;
-        run(|| silk_plc(&mut dec, &mut description, &mut [], 0))?;
+        run(|| (under(settings.edition).plc)(&mut dec, &mut description, &mut [], 0))?;
         write_state(&mut dec, words, halves);
         Ok(())
     })
@@ -428,9 +524,10 @@ pub fn post_plc_lost(words: &mut [i32], halves: &mut [i16], frame: &mut [i32], o
         let mut dec = read_state(words, halves);
         let before = read_frame(frame, &[]).control;
         let mut description = before.clone();
-        judge_state(&dec)?;
+        let settings = read_settings(words);
+        judge_state(&dec, settings)?;
         judge_lost(&dec, output)?;
-        run(|| silk_plc(&mut dec, &mut description, output, 1))?;
+        run(|| (under(settings.edition).plc)(&mut dec, &mut description, output, 1))?;
         write_state(&mut dec, words, halves);
         keep(&before, &description, frame, &mut []);
         Ok(())
@@ -441,7 +538,7 @@ pub fn post_glue(words: &mut [i32], halves: &mut [i16], buffer: &mut [i16], leng
     answer(|| {
         judge_sizes(&[(words.len(), WORDS), (halves.len(), HALVES)])?;
         let mut dec = read_state(words, halves);
-        judge_state(&dec)?;
+        judge_state(&dec, read_settings(words))?;
         judge_length(buffer, length)?;
         run(|| silk_plc_glue_frames(&mut dec, buffer, length))?;
         write_state(&mut dec, words, halves);
@@ -454,12 +551,13 @@ pub fn post_noise(words: &mut [i32], halves: &mut [i16], frame: &[i32], buffer: 
         judge_sizes(&[(words.len(), WORDS), (halves.len(), HALVES), (frame.len(), FRAME)])?;
         let mut dec = read_state(words, halves);
         let description = read_frame(frame, &[]).control;
-        judge_state(&dec)?;
+        let settings = read_settings(words);
+        judge_state(&dec, settings)?;
         if dec.loss_cnt == 0 {
             judge_gains(&dec, &description)?;
         }
         judge_length(buffer, length)?;
-        run(|| silk_cng(&mut dec, &description, buffer, length))?;
+        run(|| (under(settings.edition).cng)(&mut dec, &description, buffer, length))?;
         write_state(&mut dec, words, halves);
         Ok(())
     })
@@ -472,35 +570,58 @@ pub fn post_played(rate: i32, subframes: i32, output: &[i16]) -> i32 {
     judge_shape(rate, subframes).map_or(0, |()| played(5 * rate * subframes))
 }
 
-/// Row 13 of the stability test.
-fn judge_order(coefficients: &[i16], order: usize) -> Judged {
-    unless(13, (1..=16).contains(&order) && order <= coefficients.len())
+/// Rows 13 and 22 of the stability test.
+fn judge_test(coefficients: &[i16], order: usize, edition: i32) -> Judged {
+    unless(13, (1..=16).contains(&order) && order <= coefficients.len())?;
+    judge_edition(22, edition)
 }
 
-pub fn post_stability(coefficients: &[i16], order: usize, result: &mut [i32]) -> i32 {
+pub fn post_stability(coefficients: &[i16], order: usize, edition: i32, result: &mut [i32]) -> i32 {
     answer(|| {
         judge_sizes(&[(result.len(), ANSWER)])?;
-        judge_order(coefficients, order)?;
-        result[..ANSWER].copy_from_slice(&run(|| reason(coefficients, order))?);
+        judge_test(coefficients, order, edition)?;
+        result[..ANSWER].copy_from_slice(&run(|| (under(edition).reason)(coefficients, order))?);
         Ok(())
     })
 }
 
-pub fn post_sentence(coefficients: &[i16], order: usize, text: &mut [u8]) -> i32 {
+pub fn post_sentence(coefficients: &[i16], order: usize, edition: i32, text: &mut [u8]) -> i32 {
     answer(|| {
         judge_sizes(&[(text.len(), TEXT)])?;
-        judge_order(coefficients, order)?;
-        let sentence = Stability::of(run(|| reason(coefficients, order))?).to_string();
+        judge_test(coefficients, order, edition)?;
+        let sentence = Stability::of(run(|| (under(edition).reason)(coefficients, order))?).to_string();
         text[..TEXT].fill(0);
         text[..sentence.len()].copy_from_slice(sentence.as_bytes());
         Ok(())
     })
 }
 
-pub fn post_filter(coefficients: &mut [i16], lines: &[i16], order: usize) -> i32 {
+pub fn post_filter(coefficients: &mut [i16], lines: &[i16], order: usize, edition: i32) -> i32 {
     answer(|| {
         unless(13, [10, 16].contains(&order) && order <= coefficients.len() && order <= lines.len())?;
         unless(9, none_negative(&lines[..order]))?;
-        run(|| silk_nlsf2a(&mut coefficients[..order], lines, order))
+        judge_edition(22, edition)?;
+        run(|| (under(edition).nlsf2a)(&mut coefficients[..order], lines, order))
+    })
+}
+
+pub fn post_cosine(place: usize, value: &mut [i32]) -> i32 {
+    answer(|| {
+        judge_sizes(&[(value.len(), VALUE)])?;
+        unless(17, place <= 128)?;
+        value[0] = SILK_LSF_COS_TAB_FIX_Q12[place].into();
+        Ok(())
+    })
+}
+
+/// The lines lie between 0 and 32,768, with at least 3 from each of these numbers to the next.
+pub fn post_rising(lines: &[i16], order: usize, result: &mut [i32]) -> i32 {
+    answer(|| {
+        judge_sizes(&[(result.len(), VALUE)])?;
+        unless(17, [10, 16].contains(&order) && order <= lines.len())?;
+        let inner = lines[..order].iter().map(|line| i32::from(*line));
+        let all: Vec<i32> = std::iter::once(0).chain(inner).chain([32_768]).collect();
+        result[0] = all.windows(2).all(|pair| pair[1] - pair[0] >= 3).into();
+        Ok(())
     })
 }

@@ -1,28 +1,28 @@
-//! Hand-made cases: the ends of every range of document 01, its test bench, and changes of shape (document 02, Note 1).
+//! Hand-made cases: the ends of every range of document 01 and its test bench; of document 02 changes of shape (Note 1), squelches (Note 3),
+//! editions (Note 10) and what the announcement writer asks (Note 6).
 
-use crate::call::{self, BYTES, Call, Draft, LONG, SHORT, What};
-use crate::draw::{BETWEEN_10, BETWEEN_16};
+use crate::call::{BYTES, Call, Draft, LONG, SHORT, What};
+use crate::draw::{APART_10, BETWEEN_10, BETWEEN_16};
 use crate::post::ffi::frame::{GAINS, INTERPOLATION, LAGS, OFFSET, RATE, RECEIVED, SEED, SIGNAL, SUBFRAMES};
-use crate::reference::{read_state, set_up};
+use crate::post::ffi::words::{EDITION, SQUELCH};
+use crate::reference::{NEWER, OLDER, read_state, set_up};
+use crate::vectors::{self, left, on, voiced};
 use What::*;
 use given::silk::decoder_structs::SilkDecoderState;
 
 pub struct Row {
     pub label: String,
     pub what: What,
+    /// It stands in the fixed list of answers even where it plays a frame.
+    pub listed: bool,
     draft: Draft,
     answer: i32,
-    holds: fn(&SilkDecoderState, &Call) -> bool,
+    holds: Box<dyn Fn(&SilkDecoderState, &Call) -> bool>,
 }
 
 impl Row {
     pub fn call(&self) -> Call {
         self.draft.clone().call()
-    }
-
-    /// The frame brings another shape than the held one.
-    pub fn changes(&self) -> bool {
-        self.draft.shape() != (self.draft.dec.fs_khz, self.draft.dec.nb_subfr)
     }
 
     /// The answer is the row's; refused, everything is unchanged.
@@ -42,55 +42,73 @@ impl Row {
     }
 }
 
-/// The rows, in the order in which they are added.
-struct Table(Vec<Row>);
+/// The rows, in the order in which they are added, and whether the next ones are listed.
+struct Table {
+    rows: Vec<Row>,
+    listed: bool,
+}
 
 impl Table {
     /// A plain call at 16 kHz with four subframes, changed.
-    fn add(&mut self, what: What, label: &str, answer: i32, change: fn(&mut Draft)) {
+    fn add(&mut self, what: What, label: &str, answer: i32, change: impl Fn(&mut Draft)) {
         self.outcome(what, label, answer, change, |_, _| true);
     }
 
-    fn outcome(&mut self, what: What, label: &str, answer: i32, change: fn(&mut Draft), holds: fn(&SilkDecoderState, &Call) -> bool) {
+    fn outcome(
+        &mut self, what: What, label: &str, answer: i32, change: impl Fn(&mut Draft),
+        holds: impl Fn(&SilkDecoderState, &Call) -> bool + 'static,
+    ) {
         let mut draft = Draft::plain(what, 16, 4);
         (draft.dec.s_plc.fs_khz, draft.dec.s_cng.fs_khz) = (16, 16);
         (draft.dec.s_plc.pitch_l_q8, draft.dec.s_plc.prev_gain_q16) = (512 * 16, [65_536; 2]);
         (draft.dec.s_plc.nb_subfr, draft.dec.s_plc.subfr_length) = (4, 80);
         change(&mut draft);
-        self.0.push(Row { label: label.into(), what, draft, answer, holds });
+        self.push(label, answer, draft, holds);
+    }
+
+    fn push(&mut self, label: &str, answer: i32, draft: Draft, holds: impl Fn(&SilkDecoderState, &Call) -> bool + 'static) {
+        self.rows.push(Row { label: label.into(), what: draft.what, listed: self.listed, draft, answer, holds: Box::new(holds) });
     }
 
     /// A change that every function judging the state answers alike.
-    fn state(&mut self, label: &str, answer: i32, change: fn(&mut Draft)) {
+    fn state(&mut self, label: &str, answer: i32, change: impl Fn(&mut Draft)) {
         for what in [Received, Lost, Core, PlcReceived, PlcLost, Glue, Noise] {
-            self.add(what, label, answer, change);
+            self.add(what, label, answer, &change);
         }
     }
 
     /// A change that every function judging the description answers alike.
-    fn described(&mut self, label: &str, answer: i32, change: fn(&mut Draft)) {
+    fn described(&mut self, label: &str, answer: i32, change: impl Fn(&mut Draft)) {
         for what in [Received, Core, PlcReceived] {
-            self.add(what, label, answer, change);
+            self.add(what, label, answer, &change);
         }
     }
 }
 
 pub fn all() -> Vec<Row> {
-    let mut table = Table(alone());
-    vectors(&mut table);
-    table.0
+    let mut table = Table { rows: alone(), listed: false };
+    for list in vectors::all() {
+        for (number, frame, holds) in list.asked() {
+            table.push(&format!("{}: frame {number}", list.label), 0, frame, holds);
+        }
+    }
+    table.rows
 }
 
-/// The rows that are no list's last frame.
+/// The rows that are no list's frame.
 pub fn alone() -> Vec<Row> {
-    let mut table = Table(vec![]);
+    let mut table = Table { rows: vec![], listed: false };
     shapes(&mut table);
     states(&mut table);
     descriptions(&mut table);
     lengths(&mut table);
     bench(&mut table);
+    table.listed = true;
     changes(&mut table);
-    table.0
+    squelches(&mut table);
+    editions(&mut table);
+    announcements(&mut table);
+    table.rows
 }
 
 fn shapes(t: &mut Table) {
@@ -247,7 +265,7 @@ fn descriptions(t: &mut Table) {
     t.described("history before signal", 3, |d| (d.dec.indices.signal_type, d.dec.loss_cnt) = (3, -1));
     for received in [2, -1, 256, i32::MIN] {
         t.add(Received, "any number but 0 is a received frame", 10, |d| d.pulses.clear());
-        t.0.last_mut().unwrap().draft.numbers.push((RECEIVED, received));
+        t.rows.last_mut().unwrap().draft.numbers.push((RECEIVED, received));
     }
     t.add(Received, "0 is a lost frame", 0, |d| {
         d.numbers.push((RECEIVED, 0));
@@ -325,31 +343,13 @@ fn lengths(t: &mut Table) {
     t.add(Filter, "line -1 past order 10", 0, |d| (d.length, d.lines[10]) = (10, -1));
 }
 
+/// Lines of a filter of order 10.
+fn lines_10(d: &mut Draft, lines: [i16; 10]) {
+    d.length = 10;
+    d.lines[..10].copy_from_slice(&lines);
+}
+
 fn bench(t: &mut Table) {
-    fn stability(t: &mut Table, label: &str, change: fn(&mut Draft), holds: fn(&SilkDecoderState, &Call) -> bool) {
-        t.outcome(Stability, label, 0, change, holds);
-    }
-    stability(t, "order 1, 0", |d| d.length = 1, |_, c| c.result == [0, 1_073_741_824]);
-    stability(t, "order 1, 4,094", |d| (d.length, d.coefficients[0]) = (1, 4_094), |_, c| c.result == [0, 1_048_320]);
-    stability(t, "order 1, 4,095", |d| (d.length, d.coefficients[0]) = (1, 4_095), |_, c| c.result == [2, 0]);
-    stability(t, "order 1, -4,095", |d| (d.length, d.coefficients[0]) = (1, -4_095), |_, c| c.result == [2, 0]);
-    stability(t, "order 1, 4,096", |d| (d.length, d.coefficients[0]) = (1, 4_096), |_, c| c.result == [1, 0]);
-    fn two(d: &mut Draft, first: i16, second: i16) {
-        (d.length, d.coefficients[0], d.coefficients[1]) = (2, first, second);
-    }
-    stability(t, "order 2, a step of 16,773,022", |d| two(d, 3_999, 96), |_, c| c.result == [0, 536_468]);
-    stability(t, "order 2, a step of -16,773,022", |d| two(d, -3_999, 96), |_, c| c.result == [0, 536_468]);
-    stability(t, "order 2, a step of 16,773,023", |d| two(d, 4_000, 95), |_, c| c.result == [2, 0]);
-    stability(t, "order 2, a step of 16,773,043", |d| two(d, 4_019, 76), |_, c| c.result == [2, 0]);
-    stability(t, "order 2, the sum before the coefficient", |d| two(d, 1, 4_095), |_, c| c.result == [1, 0]);
-    stability(t, "order 2, the first step's coefficient", |d| two(d, 0, -4_095), |_, c| c.result == [2, 1]);
-    stability(t, "order 2, the last step's gain", |d| two(d, -7_771, -3_677), |_, c| c.result == [3, 0]);
-    stability(t, "order 2, a step to -2^31", |d| two(d, -256, 4_094), |_, c| c.result == [2, 0]);
-    stability(t, "order 2, a step beyond 32 bits", |d| two(d, -257, 4_094), |_, c| c.result == [4, 1]);
-    fn lines_10(d: &mut Draft, lines: [i16; 10]) {
-        d.length = 10;
-        d.lines[..10].copy_from_slice(&lines);
-    }
     t.outcome(
         Filter,
         "lines at the limit, order 10",
@@ -467,195 +467,6 @@ fn bench(t: &mut Table) {
 
 // Document 02, Note 1.
 
-/// A voiced frame with a pulse of 3 at every 16th place.
-fn voiced(rate: i32, subframes: i32) -> Draft {
-    let mut d = Draft::plain(Received, rate, subframes);
-    (d.dec.indices.signal_type, d.dec.indices.nlsf_interp_coef_q2, d.dec.indices.seed) = (2, 4, 1);
-    (d.control.pitch_l, d.control.gains_q16, d.control.ltp_scale_q14) = ([10 * rate; 4], [1 << 24; 4], 15_565);
-    d.control.ltp_coef_q14.chunks_mut(5).for_each(|taps| taps[2] = 8_192);
-    d.control.pred_coef_q12.iter_mut().for_each(|row| row[0] = 2_048);
-    (0..16).for_each(|i| d.lines[i] = 1_900 * (i as i16 + 1));
-    d.pulses.iter_mut().step_by(16).for_each(|pulse| *pulse = 3);
-    d
-}
-
-/// A frame of a list: `voiced` or lost, at a coming shape.
-type Step = (What, i32, i32);
-
-fn step((what, rate, subframes): Step) -> Draft {
-    if what == Received { voiced(rate, subframes) } else { Draft::plain(Lost, rate, subframes) }
-}
-
-/// A frame on another state.
-fn on(dec: SilkDecoderState, mut draft: Draft) -> Draft {
-    let indices = draft.dec.indices;
-    draft.dec = SilkDecoderState { indices, ..dec };
-    draft
-}
-
-/// The state after a set-up and frames that are all played.
-fn after((rate, subframes): (i32, i32), steps: &[Step]) -> SilkDecoderState {
-    steps.iter().fold(set_up(rate, subframes), |dec, next| {
-        let mut call = on(dec, step(*next)).call();
-        assert_eq!(call::reference(&mut call), 0, "a vector's frame is played");
-        read_state(&call.words, &call.halves)
-    })
-}
-
-/// A list from set-up, and what holds after its last frame.
-pub struct Vector {
-    label: &'static str,
-    pub set_up: (i32, i32),
-    pub steps: &'static [Step],
-    holds: fn(&SilkDecoderState, &Call) -> bool,
-}
-
-/// The first samples, the last, the largest in size, and the sum.
-fn heard(c: &Call) -> ([i16; 8], i16, u16, i32) {
-    let largest = c.output.iter().map(|sample| sample.unsigned_abs()).max().unwrap();
-    (c.output[..8].try_into().unwrap(), *c.output.last().unwrap(), largest, c.output.iter().map(|sample| *sample as i32).sum())
-}
-
-/// `lag_prev`, the previous type, the first-frame flag and the count of losses.
-fn kept(s: &SilkDecoderState) -> (i32, i32, i32, i32) {
-    (s.lag_prev, s.prev_signal_type, s.first_frame_after_reset, s.loss_cnt)
-}
-
-/// Rate, subframes and their length, pitch, middle tap, noise scale, later gain, first coefficient and energy of concealment.
-fn concealment(s: &SilkDecoderState) -> ([i32; 4], i16, i16, i32, i16, i32) {
-    let plc = &s.s_plc;
-    let shape = [plc.fs_khz, plc.nb_subfr, plc.subfr_length, plc.pitch_l_q8];
-    (shape, plc.ltp_coef_q14[2], plc.rand_scale_q14, plc.prev_gain_q16[1], plc.prev_lpc_q12[0], plc.conc_energy)
-}
-
-/// The held shape: rate, subframes, frame, subframe, history and order.
-fn shape(s: &SilkDecoderState) -> [i32; 6] {
-    [s.fs_khz, s.nb_subfr, s.frame_length, s.subfr_length, s.ltp_mem_length, s.lpc_order]
-}
-
-pub const VECTORS: [Vector; 9] = [
-    Vector {
-        label: "12, 4",
-        set_up: (12, 4),
-        steps: &[(Received, 12, 4)],
-        holds: |s, c| {
-            heard(c) == ([757, 388, 203, 95, 41, 30, 24, 5], 3, 765, 3_305)
-                && kept(s) == (120, 2, 0, 0)
-                && concealment(s) == ([12, 4, 60, 30_720], 11_464, 0, 1 << 24, 2_048, 0)
-                && s.prev_nlsf_q15[9..] == [19_000, 0, 0, 0, 0, 0, 0]
-        },
-    },
-    Vector {
-        label: "12, 4; lost at 12, 2",
-        set_up: (12, 4),
-        steps: &[(Received, 12, 4), (Lost, 12, 2)],
-        holds: |s, c| {
-            heard(c) == ([261, 139, 71, 38, 15, 20, 12, 2], -11, 537, -101)
-                && shape(s) == [12, 2, 120, 60, 240, 10]
-                && kept(s) == (122, 2, 0, 1)
-                && concealment(s) == ([12, 4, 60, 31_337], 11_235, 4_218, 1 << 24, 2_028, 3_735_631)
-                && c.frame[LAGS..GAINS] == [122; 4]
-        },
-    },
-    Vector {
-        label: "12, 4; lost at 12, 4",
-        set_up: (12, 4),
-        steps: &[(Received, 12, 4), (Lost, 12, 4)],
-        holds: |s, c| {
-            heard(c) == ([261, 139, 71, 38, 15, 20, 12, 2], -85, 537, -2_294)
-                && kept(s) == (125, 2, 0, 1)
-                && concealment(s) == ([12, 4, 60, 31_966], 11_010, 3_806, 1 << 24, 2_028, 6_337_560)
-                && c.frame[LAGS..GAINS] == [125; 4]
-        },
-    },
-    Vector {
-        label: "12, 4; lost at 16, 2",
-        set_up: (12, 4),
-        steps: &[(Received, 12, 4), (Lost, 16, 2)],
-        holds: |s, c| {
-            heard(c) == ([0; 8], 0, 5, 19)
-                && shape(s) == [16, 2, 160, 80, 320, 16]
-                && kept(s) == (82, 0, 1, 1)
-                && concealment(s) == ([16, 2, 20, 20_890], 11_235, 16_057, 65_536, 0, 65)
-                && s.s_plc.prev_lpc_q12 == [0; 16]
-                && (s.s_cng.fs_khz, s.s_cng.cng_smth_nlsf_q15[0], s.s_cng.cng_smth_nlsf_q15[15]) == (16, 1_927, 30_832)
-                && s.prev_gain_q16 == 1 << 24
-                && c.frame[LAGS..GAINS] == [82; 4]
-        },
-    },
-    Vector {
-        label: "12, 4; lost at 16, 2; 16, 2",
-        set_up: (12, 4),
-        steps: &[(Received, 12, 4), (Lost, 16, 2), (Received, 16, 2)],
-        holds: |s, c| {
-            heard(c) == ([2, 10, 10, 7, 4, 3, 3, 1], 9, 764, 637)
-                && kept(s) == (160, 2, 0, 0)
-                && concealment(s) == ([16, 2, 80, 40_960], 11_464, 16_057, 1 << 24, 2_048, 65)
-                && s.prev_nlsf_q15[15] == 30_400
-        },
-    },
-    Vector {
-        label: "12, 4; lost at 16, 2; lost at 12, 4",
-        set_up: (12, 4),
-        steps: &[(Received, 12, 4), (Lost, 16, 2), (Lost, 12, 4)],
-        holds: |s, c| {
-            heard(c) == ([0, 3, 0, 0, 0, 0, 0, 0], 0, 3, 10)
-                && shape(s) == [12, 4, 240, 60, 240, 10]
-                && kept(s) == (125, 0, 1, 2)
-                && concealment(s) == ([12, 2, 20, 31_966], 9_150, 10_533, 65_536, 0, 154)
-                && s.s_cng.cng_smth_nlsf_q15[9..11] == [29_780, 21_197]
-        },
-    },
-    Vector {
-        label: "12, 4; 8, 4",
-        set_up: (12, 4),
-        steps: &[(Received, 12, 4), (Received, 8, 4)],
-        holds: |s, c| {
-            heard(c) == ([757, 388, 203, 95, 41, 30, 24, 5], 4, 1_138, 5_402)
-                && shape(s) == [8, 4, 160, 40, 160, 10]
-                && kept(s) == (80, 2, 0, 0)
-                && concealment(s) == ([8, 4, 40, 20_480], 11_464, 0, 1 << 24, 2_048, 0)
-        },
-    },
-    Vector {
-        label: "12, 4; 16, 4",
-        set_up: (12, 4),
-        steps: &[(Received, 12, 4), (Received, 16, 4)],
-        holds: |s, c| {
-            heard(c) == ([758, 389, 205, 96, 42, 31, 26, 7], 18, 1_143, 2_470)
-                && shape(s) == [16, 4, 320, 80, 320, 16]
-                && kept(s) == (160, 2, 0, 0)
-                && concealment(s) == ([16, 4, 80, 40_960], 11_464, 0, 1 << 24, 2_048, 0)
-        },
-    },
-    Vector {
-        label: "16, 4; lost at 16, 2",
-        set_up: (16, 4),
-        steps: &[(Received, 16, 4), (Lost, 16, 2)],
-        holds: |s, c| {
-            heard(c) == ([-250, -122, -58, -32, -18, 5, 5, 11], 8, 806, 478)
-                && kept(s) == (163, 2, 0, 1)
-                && concealment(s) == ([16, 4, 80, 41_782], 11_235, 4_218, 1 << 24, 2_028, 4_249_872)
-        },
-    },
-];
-
-impl Vector {
-    /// The list's calls, each of which is given the state that the one before left.
-    pub fn calls(&self) -> Vec<Call> {
-        let set_up = Draft::plain(SetUp, self.set_up.0, self.set_up.1).call();
-        std::iter::once(set_up).chain(self.steps.iter().map(|next| step(*next).call())).collect()
-    }
-}
-
-fn vectors(t: &mut Table) {
-    for vector in VECTORS {
-        let (last, before) = vector.steps.split_last().unwrap();
-        let draft = on(after(vector.set_up, before), step(*last));
-        t.0.push(Row { label: vector.label.into(), what: last.0, draft, answer: 0, holds: vector.holds });
-    }
-}
-
 /// A plain call that brings another shape; at 16 kHz with 4 subframes it lends enough for any.
 fn bring(d: &mut Draft, rate: i32, subframes: i32) {
     (d.rate, d.subframes) = (rate, subframes);
@@ -663,7 +474,7 @@ fn bring(d: &mut Draft, rate: i32, subframes: i32) {
 
 /// The same on the state after a voiced frame of 12 kHz and 4 subframes.
 fn at_12(d: &mut Draft, rate: i32, subframes: i32) {
-    d.dec = after((12, 4), &[(Received, 12, 4)]);
+    d.dec = left(voiced(12, 4));
     bring(d, rate, subframes);
 }
 
@@ -780,7 +591,7 @@ fn changes(t: &mut Table) {
     };
     t.outcome(Lost, "samples past the coming frame", 0, past, |_, c| c.output[80..] == [9; 240]);
     t.add(Received, "line 12 -1, held 12, 4, coming 16, 4", 9, |d| {
-        voiced_on(d, after((12, 4), &[(Received, 12, 4)]), 16, 4);
+        voiced_on(d, left(voiced(12, 4)), 16, 4);
         d.lines[12] = -1;
     });
     t.add(Received, "line 12 -1, held 16, 4, coming 12, 4", 0, |d| {
@@ -800,7 +611,7 @@ fn changes(t: &mut Table) {
         d.control.pitch_l[0] = 250;
     });
     t.add(Received, "lag 250, held 12, 4, coming 16, 4", 0, |d| {
-        voiced_on(d, after((12, 4), &[(Received, 12, 4)]), 16, 4);
+        voiced_on(d, left(voiced(12, 4)), 16, 4);
         d.control.pitch_l[0] = 250;
     });
     t.add(Received, "held 16, 2, coming 16, 4, 160 pulses", 10, |d| {
@@ -808,4 +619,275 @@ fn changes(t: &mut Table) {
         d.pulses.truncate(160);
     });
     t.add(Received, "held 16, 4, coming 16, 2, 160 pulses", 0, |d| voiced_on(d, set_up(16, 4), 16, 2));
+}
+
+// Document 02, Note 3.
+
+/// A state with a count of losses and a squelch, and an output of 9s.
+fn hold(d: &mut Draft, losses: i32, squelch: i32) {
+    (d.dec.loss_cnt, d.settings.squelch) = (losses, squelch);
+    (d.dec.s_plc.prev_lpc_q12[0], d.dec.first_frame_after_reset) = (2_048, 0);
+    (d.dec.exc_q14, d.dec.s_plc.rand_scale_q14, d.dec.s_plc.prev_gain_q16) = ([1 << 20; 320], 16_384, [1 << 24; 2]);
+    d.output.fill(9);
+}
+
+fn squelches(t: &mut Table) {
+    fn named(d: &mut Draft, rate: i32, subframes: i32, squelch: i32) {
+        (d.rate, d.subframes, d.named.squelch, d.settings.squelch) = (rate, subframes, squelch, 7);
+    }
+    t.outcome(SetUp, "the default squelch is 0", 0, |d| named(d, 8, 2, 9), |_, c| c.words[SQUELCH] == 0);
+    t.outcome(SetUpWith, "squelch 0", 0, |d| named(d, 8, 2, 0), |s, c| (s.fs_khz, c.words[SQUELCH]) == (8, 0));
+    t.outcome(SetUpWith, "squelch 1", 0, |d| named(d, 8, 2, 1), |_, c| c.words[SQUELCH] == 1);
+    t.outcome(SetUpWith, "squelch 50", 0, |d| named(d, 16, 4, 50), |_, c| c.words[SQUELCH] == 50);
+    t.outcome(SetUpWith, "squelch 10,000", 0, |d| named(d, 8, 2, 10_000), |_, c| c.words[SQUELCH] == 10_000);
+    t.add(SetUpWith, "squelch -1", 14, |d| named(d, 8, 2, -1));
+    t.add(SetUpWith, "squelch 10,001", 14, |d| named(d, 8, 2, 10_001));
+    t.add(SetUpWith, "size before squelch", 2, |d| named(d, 8, 3, -1));
+    t.add(SetUpWith, "rate before squelch", 1, |d| named(d, 9, 3, -1));
+    t.state("held squelch -1", 3, |d| d.settings.squelch = -1);
+    t.state("held squelch 10,000", 0, |d| d.settings.squelch = 10_000);
+    t.state("held squelch 10,001", 3, |d| d.settings.squelch = 10_001);
+    t.state("size before held squelch", 2, |d| (d.dec.lpc_order, d.settings.squelch) = (15, -1));
+    t.add(Lost, "held squelch before run full", 3, |d| (d.dec.loss_cnt, d.settings.squelch) = (i32::MAX, -1));
+    t.add(Lost, "held squelch 10,001, coming 8, 2", 3, |d| {
+        d.settings.squelch = 10_001;
+        bring(d, 8, 2);
+    });
+    fn plays(_: &SilkDecoderState, c: &Call) -> bool {
+        c.output.iter().any(|sample| *sample != 0)
+    }
+    fn is_silent(_: &SilkDecoderState, c: &Call) -> bool {
+        c.output.iter().all(|sample| *sample == 0)
+    }
+    t.outcome(Lost, "squelch 0", 0, |d| hold(d, 5, 0), plays);
+    t.outcome(Lost, "squelch 1, the first loss", 0, |d| hold(d, 0, 1), is_silent);
+    t.outcome(Lost, "squelch 2, the first loss", 0, |d| hold(d, 0, 2), plays);
+    t.outcome(Lost, "squelch 2, the second loss", 0, |d| hold(d, 1, 2), is_silent);
+    t.outcome(Lost, "squelch 50, the 49th loss", 0, |d| hold(d, 48, 50), plays);
+    t.outcome(Lost, "squelch 50, the 50th loss", 0, |d| hold(d, 49, 50), is_silent);
+    t.outcome(Lost, "squelch 10,000, the 9,999th loss", 0, |d| hold(d, 9_998, 10_000), plays);
+    t.outcome(Lost, "squelch 10,000, the 10,000th loss", 0, |d| hold(d, 9_999, 10_000), is_silent);
+    t.outcome(Lost, "squelch 10,000, the last loss that is played", 0, |d| hold(d, i32::MAX - 1, 10_000), is_silent);
+    let shorter = |d: &mut Draft| {
+        hold(d, 4, 3);
+        bring(d, 8, 2);
+    };
+    t.outcome(Lost, "squelch 3, coming 8, 2", 0, shorter, |s, c| {
+        s.loss_cnt == 5 && c.output[..80] == [0; 80] && c.output[80..] == [9; 240]
+    });
+    t.outcome(PlcLost, "concealment alone has no squelch", 0, |d| hold(d, 4, 3), plays);
+    t.outcome(Noise, "noise alone has no squelch", 0, |d| hold(d, 4, 3), plays);
+    t.outcome(Glue, "gluing alone has no squelch", 0, |d| hold(d, 4, 3), plays);
+    t.outcome(
+        Received,
+        "a received frame has no squelch",
+        0,
+        |d| {
+            hold(d, 4, 3);
+            d.pulses.fill(3);
+            d.control.gains_q16 = [1 << 24; 4];
+        },
+        plays,
+    );
+}
+
+// Document 02, Note 10.
+
+/// A filter, and its answer under the newer edition.
+const ALIKE: [(&[i16], [i32; 2]); 18] = [
+    (&[0], [0, 1_073_741_824]),
+    (&[4_094], [0, 1_048_320]),
+    (&[4_095], [2, 0]),
+    (&[-4_095], [2, 0]),
+    (&[4_096], [1, 0]),
+    // Steps of 16,773,022, -16,773,022, 16,773,023 and 16,773,043.
+    (&[3_999, 96], [0, 536_468]),
+    (&[-3_999, 96], [0, 536_468]),
+    (&[4_000, 95], [2, 0]),
+    (&[4_019, 76], [2, 0]),
+    (&[1, 4_095], [1, 0]),
+    (&[0, -4_095], [2, 1]),
+    (&[0, 0, 0, 0, 0, 0, 0, 0, 0, 0, 0, 0, 0, 0, 0, -4_095], [2, 15]),
+    (&[-7_771, -3_677], [3, 0]),
+    (&[-6, 0, 4_093], [3, 1]),
+    (&[-62, 0, 4_065], [3, 0]),
+    (&[-6, 0, 0, 0, 0, 0, 0, 0, 0, 4_093], [3, 8]),
+    // A step to -2^31.
+    (&[-256, 4_094], [2, 0]),
+    (&[-4455, -5162, -5267, -3607, -2096, -1109, -460, -144, -44, -9], [0, 421_920_260]),
+];
+
+/// A filter with a step beyond 32 bits, that step, and its answer under the older edition.
+const APART: [(&[i16], i32, [i32; 2]); 9] = [
+    (&[-257, 4_094], 1, [2, 0]),
+    (&[-511, 4_094], 1, [0, 786_240]),
+    (&[-512, 4_094], 1, [0, 1_048_320]),
+    (&[-32_768, 3_968], 1, [0, 66_060_288]),
+    (&[303, -209, -4_094], 2, [2, 1]),
+    (&[-1_021, 0, -4_094], 2, [0, 305_212]),
+    (&[0, 1_020, -4_094], 2, [3, 0]),
+    (&[0, 0, 0, 0, -261, 0, 0, 0, 0, 4_094], 9, [2, 4]),
+    (&[-5940, -9177, -12485, -11399, -8833, -6233, -3445, -1436, -590, -164], 2, [0, 224_964]),
+];
+
+/// Numbers that are no edition.
+const NO_EDITIONS: [i32; 6] = [0, -1, 6_715, 6_717, 8_250, 8_252];
+
+fn editions(t: &mut Table) {
+    fn named(d: &mut Draft, edition: i32) {
+        (d.named.edition, d.settings.edition) = (edition, 7);
+    }
+    t.outcome(SetUp, "the default edition is 8251", 0, |d| named(d, OLDER), |_, c| c.words[EDITION] == NEWER);
+    for edition in [OLDER, NEWER] {
+        t.outcome(SetUpWith, &format!("edition {edition}"), 0, |d| named(d, edition), move |_, c| c.words[EDITION] == edition);
+        t.state(&format!("held edition {edition}"), 0, |d| d.settings.edition = edition);
+    }
+    for edition in NO_EDITIONS {
+        for what in [SetUpWith, Stability, Sentence, Filter] {
+            t.add(what, &format!("edition {edition}"), 22, |d| named(d, edition));
+        }
+        t.state(&format!("held edition {edition}"), 3, |d| d.settings.edition = edition);
+    }
+    t.add(SetUpWith, "squelch before edition", 14, |d| (d.named.squelch, d.named.edition) = (-1, 0));
+    t.add(SetUpWith, "size before edition", 2, |d| (d.subframes, d.named.edition) = (3, 0));
+    t.add(SetUpWith, "rate before edition", 1, |d| (d.rate, d.named.edition) = (9, 0));
+    for what in [Stability, Sentence, Filter] {
+        t.add(what, "order before edition", 13, |d| (d.length, d.named.edition) = (17, 0));
+    }
+    t.add(Filter, "line before edition", 9, |d| (d.lines[0], d.named.edition) = (-1, 0));
+    t.state("size before held edition", 2, |d| (d.dec.lpc_order, d.settings.edition) = (15, 0));
+    t.add(Lost, "held edition before run full", 3, |d| (d.dec.loss_cnt, d.settings.edition) = (i32::MAX, 0));
+
+    let mut tested = |a: &[i16], edition: i32, answer: [i32; 2]| {
+        let filter = |d: &mut Draft| (d.coefficients, d.length, d.named.edition) = (a.to_vec(), a.len(), edition);
+        t.outcome(Stability, &format!("{a:?} by {edition}"), 0, filter, move |_, c| c.result == answer);
+    };
+    for (a, answer) in ALIKE {
+        tested(a, NEWER, answer);
+        tested(a, OLDER, answer);
+    }
+    for (a, step, answer) in APART {
+        tested(a, NEWER, [4, step]);
+        tested(a, OLDER, answer);
+    }
+    let filters = [
+        (NEWER, [-4455, -5162, -5267, -3607, -2096, -1109, -460, -144, -44, -9]),
+        (OLDER, [-5940, -9177, -12485, -11399, -8833, -6233, -3445, -1436, -590, -164]),
+    ];
+    for (edition, filter) in filters {
+        let lines = |d: &mut Draft| {
+            lines_10(d, APART_10[0]);
+            d.named.edition = edition;
+        };
+        t.outcome(Filter, &format!("lines in no order by {edition}"), 0, lines, move |_, c| c.coefficients[..10] == filter);
+    }
+}
+
+// Document 02, Note 6.
+
+/// Lines from 3 on, each 3 above the last.
+fn lowest(d: &mut Draft, order: usize) {
+    d.length = order;
+    (0..16).for_each(|k| d.lines[k] = 3 * (k as i16 + 1));
+}
+
+/// Lines up to 32,765, each 3 above the last.
+fn highest(d: &mut Draft, order: usize) {
+    lowest(d, order);
+    (0..order).for_each(|k| d.lines[k] += 32_765 - 3 * order as i16);
+}
+
+fn announcements(t: &mut Table) {
+    let known = [(0, 8_192), (1, 8_190), (63, 202), (64, 0), (65, -202), (127, -8_190), (128, -8_192)];
+    for place in 0..=128usize {
+        let value = known.iter().find(|(at, _)| *at == place).map(|(_, value)| *value);
+        let holds = move |_: &SilkDecoderState, c: &Call| value.is_none_or(|value| c.result == [value]);
+        t.outcome(Cosine, &format!("place {place}"), 0, |d| d.length = place, holds);
+    }
+    for place in [129, 130, 255, 256, 257, u32::MAX as usize] {
+        t.add(Cosine, &format!("place {place}"), 17, |d| d.length = place);
+    }
+
+    for order in [0, 9, 11, 15, 17, u32::MAX as usize] {
+        t.add(Rising, &format!("order {order}"), 17, |d| {
+            lowest(d, order);
+            d.lines_lent = 20;
+        });
+    }
+    let mut told = |label: &str, order: usize, rises: bool, change: &dyn Fn(&mut Draft)| {
+        t.outcome(Rising, &format!("{label}, order {order}"), 0, change, move |_, c| c.result == [rises as i32]);
+    };
+    told("a negative line past the order", 10, true, &|d| {
+        lowest(d, 10);
+        d.lines[10] = -1;
+    });
+    for order in [10, 16usize] {
+        let last = order - 1;
+        told("lowest lines", order, true, &|d| lowest(d, order));
+        told("highest lines", order, true, &|d| highest(d, order));
+        told("lines enough", order, true, &|d| {
+            lowest(d, order);
+            d.lines_lent = order;
+        });
+        told("a line past the order", order, true, &|d| {
+            lowest(d, order);
+            d.lines_lent = 20;
+        });
+        told("the lines of a flat spectrum", order, true, &|d| {
+            let step = 32_767 / (order as i16 + 1);
+            d.length = order;
+            (0..order).for_each(|k| d.lines[k] = step * (k as i16 + 1));
+        });
+        for (first, rises) in [(3, true), (2, false), (0, false), (-1, false), (i16::MIN, false)] {
+            told(&format!("first line {first}"), order, rises, &|d| {
+                lowest(d, order);
+                d.lines[0] = first;
+            });
+        }
+        for (top, rises) in [(32_765, true), (32_766, false), (32_767, false)] {
+            told(&format!("last line {top}"), order, rises, &|d| {
+                lowest(d, order);
+                d.lines[last] = top;
+            });
+        }
+        for k in 1..order {
+            for (gap, rises) in [(3, true), (2, false), (0, false), (-1, false)] {
+                // The lines from k on lie `gap` above the one before them, and 3 between them.
+                told(&format!("line {k} {gap} above the last"), order, rises, &|d| {
+                    lowest(d, order);
+                    (k..order).for_each(|j| d.lines[j] += gap - 3);
+                });
+            }
+            told(&format!("line {k} negative"), order, false, &|d| {
+                lowest(d, order);
+                d.lines[k] = -1;
+            });
+        }
+        told("falling lines", order, false, &|d| {
+            lowest(d, order);
+            d.lines[..order].reverse();
+        });
+        told("equal lines", order, false, &|d| {
+            lowest(d, order);
+            d.lines = [9_000; 16];
+        });
+    }
+    for order in [10, 16usize] {
+        t.add(Rising, &format!("one line too few, order {order}"), 17, |d| {
+            lowest(d, order);
+            d.lines_lent = order - 1;
+        });
+    }
+    // Every vector without a negative line has a filter, rising or not.
+    for order in [10, 16usize] {
+        t.add(Filter, &format!("falling lines, order {order}"), 0, |d| {
+            highest(d, order);
+            d.lines[..order].reverse();
+        });
+        t.add(Filter, &format!("equal lines, order {order}"), 0, |d| {
+            lowest(d, order);
+            d.lines = [9_000; 16];
+        });
+        t.add(Filter, &format!("rising lines, order {order}"), 0, |d| highest(d, order));
+    }
 }

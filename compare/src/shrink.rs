@@ -99,9 +99,11 @@ fn keep(call: &mut Call, trial: Call, fails: &impl Fn(&Call) -> bool) -> bool {
 }
 
 fn numbers(call: &mut Call, plain: &Call, fails: &impl Fn(&Call) -> bool) -> bool {
-    let changes: [fn(&mut Call, &Call) -> bool; 3] = [
+    let changes: [fn(&mut Call, &Call) -> bool; 5] = [
         |c, p| std::mem::replace(&mut c.rate, p.rate) != p.rate,
         |c, p| std::mem::replace(&mut c.subframes, p.subframes) != p.subframes,
+        |c, p| std::mem::replace(&mut c.named.squelch, p.named.squelch) != p.named.squelch,
+        |c, p| std::mem::replace(&mut c.named.edition, p.named.edition) != p.named.edition,
         |c, p| std::mem::replace(&mut c.length, p.length) != p.length,
     ];
     let mut changed = false;

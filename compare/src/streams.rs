@@ -2,6 +2,7 @@
 
 use crate::call::{self, Call, Draft, What};
 use crate::draw::SHAPES;
+use crate::reference::{NEWER, Settings};
 use std::fs;
 use std::path::{Path, PathBuf};
 
@@ -55,12 +56,10 @@ pub fn files(place: &Path) -> Result<Vec<PathBuf>, String> {
 
 /// Reads a stream. What is to be played is its `.rust.pcm` where there is one, else the samples in its records.
 pub fn read(file: &Path) -> Result<Stream, String> {
-    let name = file.file_name().unwrap().to_string_lossy().into_owned();
-    let named = |why: String| format!("{name}: {why}");
-    let bytes = fs::read(file).map_err(|why| named(why.to_string()))?;
-    let mut stream = parse(&mut Bytes(&bytes)).map_err(named)?;
+    let mut stream = recorded(file)?;
     let rust = file.with_extension("rust.pcm");
     if rust.exists() {
+        let named = |why: String| format!("{}: {why}", stream.name);
         let bytes = fs::read(&rust).map_err(|why| named(why.to_string()))?;
         let mut bytes = Bytes(&bytes);
         for (_, samples) in &mut stream.records {
@@ -70,8 +69,16 @@ pub fn read(file: &Path) -> Result<Stream, String> {
             return Err(named("its .rust.pcm is longer".into()));
         }
     }
-    stream.name = name;
     Ok(stream)
+}
+
+/// Reads a stream, with the samples in its records.
+pub fn recorded(file: &Path) -> Result<Stream, String> {
+    let name = file.file_name().unwrap().to_string_lossy().into_owned();
+    let named = |why: String| format!("{name}: {why}");
+    let bytes = fs::read(file).map_err(|why| named(why.to_string()))?;
+    let stream = parse(&mut Bytes(&bytes)).map_err(named)?;
+    Ok(Stream { name, ..stream })
 }
 
 fn parse(bytes: &mut Bytes) -> Result<Stream, String> {
@@ -121,11 +128,17 @@ fn parse(bytes: &mut Bytes) -> Result<Stream, String> {
     Ok(Stream { name: String::new(), rate, subframes, records })
 }
 
+/// The set-up of a stream's decoder, which has no squelch and is of the newer edition.
+pub fn set_up(stream: &Stream) -> Call {
+    let draft = Draft::plain(What::SetUpWith, stream.rate, stream.subframes);
+    Draft { named: Settings { squelch: 0, edition: NEWER }, ..draft }.call()
+}
+
 /// Plays a stream from set-up, and hands on what each record's frame plays.
 pub fn play(
     stream: &Stream, mut make: impl FnMut(&mut Call) -> Result<i32, String>, mut heard: impl FnMut(usize, &[i16]) -> Result<(), String>,
 ) -> Result<(), String> {
-    let mut set_up = Draft::plain(What::SetUp, stream.rate, stream.subframes).call();
+    let mut set_up = set_up(stream);
     set_up.words.fill(-1);
     set_up.halves.fill(-1);
     let mut played = |call: &mut Call| match make(call)? {
@@ -145,13 +158,15 @@ pub fn play(
 
 /// Plays a stream from set-up; what isn't played as recorded, if anything.
 pub fn play_as_recorded(stream: &Stream, make: impl FnMut(&mut Call) -> Result<i32, String>) -> Result<(), String> {
-    play(stream, make, |index, output| {
-        let samples = &stream.records[index].1;
-        match (0..samples.len()).find(|at| output[*at] != samples[*at]) {
-            Some(at) => Err(format!("sample {at} is {}, recorded is {}", output[at], samples[at])),
-            None => Ok(()),
-        }
-    })
+    play(stream, make, |index, output| as_recorded(output, &stream.records[index].1))
+}
+
+/// The first sample of a frame that isn't the recorded one, if any.
+pub fn as_recorded(output: &[i16], samples: &[i16]) -> Result<(), String> {
+    match (0..samples.len()).find(|at| output[*at] != samples[*at]) {
+        Some(at) => Err(format!("sample {at} is {}, recorded is {}", output[at], samples[at])),
+        None => Ok(()),
+    }
 }
 
 /// Writes a stream with the samples that the Rust plays in place of those in its records.

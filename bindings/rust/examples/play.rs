@@ -2,14 +2,15 @@
 
 mod stream;
 
-use post::{Description, Post};
+use post::{Description, Post, Settings};
 use std::{env, process::ExitCode};
 use stream::Stream;
 
 /// Plays a stream, and says what was played.
 fn play(file: &str) -> Result<String, String> {
     let stream = Stream::read(file)?;
-    let mut post = Post::set_up(stream.shape).map_err(|why| format!("{file}: set-up is refused: {why}"))?;
+    let unsquelched = Settings { squelch: 0, ..Settings::default() };
+    let mut post = Post::set_up_with(stream.shape, unsquelched).map_err(|why| format!("{file}: set-up is refused: {why}"))?;
     let (mut received, mut lost) = (0, 0);
     for (index, record) in stream.records.into_iter().enumerate() {
         let mut output = vec![0; record.samples.len()];

@@ -1,6 +1,6 @@
-//! The stability test of a filter, and the filter from line frequencies.
+//! The stability test of a filter, the filter from line frequencies, its cosine table, and the check that lines rise.
 
-use super::{Refusal, answered, ffi};
+use super::{Edition, Refusal, answered, ffi};
 use core::fmt;
 
 /// The stability test's answer. A step has the number of its coefficient's place, from 0; the test begins at the last one.
@@ -14,7 +14,7 @@ pub enum Stability {
     Coefficient(u8),
     /// The gain (Q30) is below 107,374 after a step.
     Gain(u8),
-    /// A step leaves 32 bits.
+    /// A step leaves 32 bits; never under [`Edition::Rfc6716`].
     Overflow(u8),
 }
 
@@ -62,21 +62,37 @@ impl fmt::Display for Sentence {
     }
 }
 
-/// Whether a filter of the first `order` coefficients (Q12) is stable, or why not.
-pub fn stability(coefficients: &[i16], order: usize) -> Result<Stability, Refusal> {
+/// Whether a filter of the first `order` coefficients (Q12) is stable under an edition, or why not.
+pub fn stability(coefficients: &[i16], order: usize, edition: Edition) -> Result<Stability, Refusal> {
     let mut answer = [0; ffi::ANSWER];
-    answered(ffi::stability(coefficients, order, &mut answer))?;
+    answered(ffi::stability(coefficients, order, edition.number(), &mut answer))?;
     Ok(Stability::of(answer))
 }
 
 /// The same as a sentence.
-pub fn sentence(coefficients: &[i16], order: usize) -> Result<Sentence, Refusal> {
+pub fn sentence(coefficients: &[i16], order: usize, edition: Edition) -> Result<Sentence, Refusal> {
     let mut text = [0; ffi::TEXT];
-    answered(ffi::sentence(coefficients, order, &mut text))?;
+    answered(ffi::sentence(coefficients, order, edition.number(), &mut text))?;
     Ok(Sentence(text))
 }
 
-/// The first `order` coefficients (Q12) of a filter from line frequencies (Q15).
-pub fn filter(coefficients: &mut [i16], lines: &[i16], order: usize) -> Result<(), Refusal> {
-    answered(ffi::filter(coefficients, lines, order))
+/// The first `order` coefficients (Q12) of a filter from line frequencies (Q15), rising or not, which is stable by the edition's test. A post's
+/// comfort noise has this filter from the lines that it holds.
+pub fn filter(coefficients: &mut [i16], lines: &[i16], order: usize, edition: Edition) -> Result<(), Refusal> {
+    answered(ffi::filter(coefficients, lines, order, edition.number()))
+}
+
+/// Entry `place`, 0 to 128, of the table from which that filter comes: twice the cosine (Q12) of `place`/128 of half a turn.
+pub fn cosine(place: usize) -> Result<i32, Refusal> {
+    let mut value = [0; ffi::VALUE];
+    answered(ffi::cosine(place, &mut value))?;
+    Ok(value[0])
+}
+
+/// Whether the first `order` line frequencies (Q15) rise, with at least 3 between neighbours, at the bottom, and below 32,768 at the top. [`filter`]
+/// never refuses rising lines for a negative one.
+pub fn is_rising(lines: &[i16], order: usize) -> Result<bool, Refusal> {
+    let mut answer = [0; ffi::VALUE];
+    answered(ffi::rising(lines, order, &mut answer))?;
+    Ok(answer[0] == 1)
 }

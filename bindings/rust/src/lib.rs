@@ -3,7 +3,8 @@
 //! [`Post`] owns a decoder's state. A frame is played by [`Post::received`] or [`Post::lost`]; one that the
 //! back end turns down leaves the state, the description and the output as they were. A call takes up to 31,496
 //! bytes of stack. The library, which `rt staticlib post` builds or POST_LIBRARY names, is for x86-64 Linux alone. With the feature `filters`,
-//! which is on unless it is turned off, `rt staticlib post_filters` builds the functions of filters: [`stability`], [`sentence`] and [`filter`].
+//! which is on unless it is turned off, `rt staticlib post_filters` builds the functions of filters: [`stability`], [`sentence`], [`filter`],
+//! [`cosine`] and [`is_rising`].
 //!
 //! ```
 //! use post::{Description, Params, Post, Shape};
@@ -30,7 +31,7 @@ pub mod ffi;
 mod filters;
 
 #[cfg(feature = "filters")]
-pub use filters::{Sentence, Stability, filter, sentence, stability};
+pub use filters::{Sentence, Stability, cosine, filter, is_rising, sentence, stability};
 
 use core::fmt;
 
@@ -64,11 +65,17 @@ pub enum Refusal {
     Length = 12,
     /// Stability test or filter from lines: the order is none, or a slice is shorter than it.
     Order = 13,
+    /// Set-up: the squelch is not in 0 to 10,000.
+    Squelch = 14,
+    /// The place of a cosine is above 128; or the rising check's order is not 10 or 16, or its slice is shorter.
+    Place = 17,
+    /// Set-up, stability test or filter from lines: the edition is neither 6716 nor 8251. No [`Edition`] gives it.
+    Edition = 22,
 }
 
 impl Refusal {
-    /// Every refusal, by number.
-    pub const ALL: [Refusal; 13] = [
+    /// Every refusal, in the order of their numbers.
+    pub const ALL: [Refusal; 16] = [
         Refusal::Rate,
         Refusal::Size,
         Refusal::History,
@@ -82,7 +89,15 @@ impl Refusal {
         Refusal::Speaker,
         Refusal::Length,
         Refusal::Order,
+        Refusal::Squelch,
+        Refusal::Place,
+        Refusal::Edition,
     ];
+
+    /// The refusal that has a number, if one has.
+    pub fn of(number: i32) -> Option<Refusal> {
+        Refusal::ALL.into_iter().find(|why| why.number() == number)
+    }
 
     /// The number that the library answers.
     pub fn number(self) -> i32 {
@@ -105,6 +120,9 @@ impl Refusal {
             Refusal::Speaker => "speaker",
             Refusal::Length => "length",
             Refusal::Order => "order",
+            Refusal::Squelch => "squelch",
+            Refusal::Place => "place",
+            Refusal::Edition => "edition",
         }
     }
 }
@@ -122,7 +140,7 @@ fn answered(number: i32) -> Result<(), Refusal> {
     if number == 0 {
         return Ok(());
     }
-    Err(Refusal::ALL[usize::try_from(number - 1).expect("a slice is too short")])
+    Err(Refusal::of(number).unwrap_or_else(|| panic!("the library answers {number}")))
 }
 
 /// A rate and a count of subframes.
@@ -132,6 +150,35 @@ pub struct Shape {
     pub rate: i32,
     /// 2 or 4.
     pub subframes: i32,
+}
+
+/// An edition of the standard, by the number of its RFC. They differ in the stability test alone: in a step of it that leaves 32 bits.
+#[derive(Clone, Copy, Default, PartialEq, Eq, Debug)]
+#[repr(i32)]
+pub enum Edition {
+    /// RFC 6716 as first published: the step keeps the low 32 bits, and the test goes on.
+    Rfc6716 = 6716,
+    /// RFC 6716 with RFC 8251: the filter is unstable.
+    #[default]
+    Rfc8251 = 8251,
+}
+
+impl Edition {
+    /// The number that the library takes.
+    pub fn number(self) -> i32 {
+        self as i32
+    }
+}
+
+/// What a post is set up with beside its shape. No frame changes it.
+#[derive(Clone, Copy, Default, PartialEq, Eq, Debug)]
+pub struct Settings {
+    /// 0 to 10,000. From the loss on that makes the count of losses this many, a lost frame plays zeros, while the state and the description
+    /// change as without it; 0, the default, means never. Only [`Post::lost`] goes by it: the stages alone play what they play.
+    pub squelch: i32,
+    /// The edition by which concealment and comfort noise test their filters. Under the older one the noise of lines in no order may be loud
+    /// and stay so, which concealment never does.
+    pub edition: Edition,
 }
 
 /// The small numbers of a received frame.
@@ -206,15 +253,19 @@ pub struct Post {
     halves: [i16; ffi::HALVES],
 }
 
-/// Where the shape stands in the state's words.
-const RATE: usize = 338;
-const SUBFRAMES: usize = 339;
-
 impl Post {
-    /// A post for a shape.
+    /// A post for a shape, with the default settings.
     pub fn set_up(shape: Shape) -> Result<Post, Refusal> {
         let mut post = Post { words: [0; ffi::WORDS], halves: [0; ffi::HALVES] };
         answered(ffi::set_up(shape.rate, shape.subframes, &mut post.words, &mut post.halves))?;
+        Ok(post)
+    }
+
+    /// A post for a shape, with settings of its own.
+    pub fn set_up_with(shape: Shape, settings: Settings) -> Result<Post, Refusal> {
+        let mut post = Post { words: [0; ffi::WORDS], halves: [0; ffi::HALVES] };
+        let Settings { squelch, edition } = settings;
+        answered(ffi::set_up_with(shape.rate, shape.subframes, squelch, edition.number(), &mut post.words, &mut post.halves))?;
         Ok(post)
     }
 
@@ -230,7 +281,7 @@ impl Post {
 
     /// The shape that the post holds: that of the last frame that was played, or of its set-up. The stages alone go by it.
     pub fn shape(&self) -> Shape {
-        Shape { rate: self.words[RATE], subframes: self.words[SUBFRAMES] }
+        Shape { rate: self.words[ffi::words::RATE], subframes: self.words[ffi::words::SUBFRAMES] }
     }
 
     /// Plays a received frame into the first samples of `output`. The frame brings its shape, which the post then holds: a new count of
@@ -244,7 +295,8 @@ impl Post {
         Ok(())
     }
 
-    /// Conceals a lost frame; the four lags of the description become the last one. It brings its shape as a received one does.
+    /// Conceals a lost frame, or plays zeros where it is squelched ([`Settings`]); the four lags of the description become the last one. It
+    /// brings its shape as a received one does.
     pub fn lost(&mut self, shape: Shape, description: &mut Description, output: &mut [i16]) -> Result<(), Refusal> {
         let mut numbers = Numbers::of(shape, None, description);
         answered(ffi::frame(&mut self.words, &mut self.halves, &mut numbers.frame, &mut numbers.coefs, &[], output))?;

@@ -11,7 +11,8 @@ use Rattle.stability.specs.Stability.{answerNumber, answerValue, tested}
 use Rattle.shape.specs.Shape.{frameLength}
 use Rattle.decoder.specs.State.{shapeOf}
 use Rattle.decoder.specs.SetUp.{setUp}
-use Rattle.decoder.specs.Outcome.{Outcome, build}
+use Rattle.decoder.specs.With.{withPlc}
+use Rattle.decoder.specs.Outcome.{Outcome}
 use Rattle.decoder.specs.declared.SilkDecoderState.{SilkDecoderState}
 use Rattle.decoder.specs.declared.SilkDecoderControl.{SilkDecoderControl}
 use Rattle.decoder.specs.declared.Params.{Params}
@@ -65,11 +66,7 @@ abbrev pitched : ℤ → ℤ → SilkDecoderState
 pitched nb pitch =
     let s = start (pos 16) nb in
     let h = plcReset (shapeOf s) (s .«s_plc») in
-    build s (s .«prev_gain_q16») (s .«exc_q14») (s .«s_lpc_q14_buf») (s .«out_buf») (s .«lag_prev») (s .«prev_nlsf_q15»)
-    (s .«first_frame_after_reset»)
-    (s .«s_cng»)
-    (s .«loss_cnt»)
-    (s .«prev_signal_type»)
+    withPlc s
     (hold h pitch (h .«ltp_coef_q14») (h .«prev_lpc_q12») (h .«rand_seed») (h .«rand_scale_q14») (h .«prev_ltp_scale_q14») (h .«prev_gain_q16») (h .«fs_khz») (h .«nb_subfr») (h .«subfr_length»))
 
 -- one loss

@@ -14,7 +14,8 @@ use Rattle.sigproc.specs.Synthesis.{played}
 use Rattle.shape.specs.Shape.{Shape, lpcOrder}
 use Rattle.decoder.specs.Outcome.{Framed}
 use Rattle.decoder.specs.declared.SilkDecoderState.{SilkDecoderState}
-use Rattle.cng.specs.Noise.{cngReady, tracked, noiseGain, noiseSignal, silenced, sounded, addedTo, withNoise, comfortNoise}
+use Rattle.decoder.specs.With.{withNoise}
+use Rattle.cng.specs.Noise.{cngReady, tracked, noiseGain, noiseSignal, silenced, sounded, addedTo, comfortNoise}
 
 module _ (p : Shape) (s : SilkDecoderState) (gains : List ℤ) (n : ℕ) (frame : List ℤ) where
   pub received-is : eqℤ (s .«loss_cnt») (pos 0) ≡ true
@@ -23,14 +24,14 @@ module _ (p : Shape) (s : SilkDecoderState) (gains : List ℤ) (n : ℕ) (frame 
   received-is e = rw e refl
 
   pub lost-is : eqℤ (s .«loss_cnt») (pos 0) ≡ false
-      → let h = cngReady (p .rate) (s .«s_cng») in comfortNoise p s gains n frame ≡ record { state = withNoise s (sounded (lpcOrder p) h n); frame = addedTo frame (noiseSignal (lpcOrder p) h n) (noiseGain (s .«s_plc» .«rand_scale_q14») (getD (s .«s_plc» .«prev_gain_q16») 1 (pos 0)) (h .«cng_smth_gain_q16»)) n }
+      → let h = cngReady (p .rate) (s .«s_cng») in comfortNoise p s gains n frame ≡ record { state = withNoise s (sounded (s .settings .edition) (lpcOrder p) h n); frame = addedTo frame (noiseSignal (s .settings .edition) (lpcOrder p) h n) (noiseGain (s .«s_plc» .«rand_scale_q14») (getD (s .«s_plc» .«prev_gain_q16») 1 (pos 0)) (h .«cng_smth_gain_q16»)) n }
   unfolding comfortNoise
   lost-is e = rw e refl
 
   -- what holds of both holds of every call
   pub by-cases : (Q : Framed → Type 0)
       → (eqℤ (s .«loss_cnt») (pos 0) ≡ true → Q (record { state = withNoise s (silenced (lpcOrder p) (cond (eqℤ (s .«prev_signal_type») (pos 0)) (tracked p (s .«exc_q14») (s .«prev_nlsf_q15») gains (cngReady (p .rate) (s .«s_cng»))) (cngReady (p .rate) (s .«s_cng»)))); frame = frame }))
-      → ((gain : ℤ) → Q (record { state = withNoise s (sounded (lpcOrder p) (cngReady (p .rate) (s .«s_cng»)) n); frame = addedTo frame (noiseSignal (lpcOrder p) (cngReady (p .rate) (s .«s_cng»)) n) gain n }))
+      → ((gain : ℤ) → Q (record { state = withNoise s (sounded (s .settings .edition) (lpcOrder p) (cngReady (p .rate) (s .«s_cng»)) n); frame = addedTo frame (noiseSignal (s .settings .edition) (lpcOrder p) (cngReady (p .rate) (s .«s_cng»)) n) gain n }))
       → Q (comfortNoise p s gains n frame)
   by-cases Q f g = go (eqℤ (s .«loss_cnt») (pos 0)) refl
     where

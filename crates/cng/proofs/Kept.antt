@@ -28,9 +28,10 @@ use Rattle.decoder.specs.declared.SilkCNGState.{SilkCNGState}
 use Rattle.decoder.specs.declared.SilkDecoderState.{SilkDecoderState}
 use Rattle.decoder.proofs.Between.{either, AllBetween}
 use Rattle.decoder.proofs.Bounds.{CngHeldBounds, CngBounds, cng-fits}
-use Rattle.decoder.proofs.Built.{typed-build}
+use Rattle.decoder.proofs.Built.{typed-noise}
 use Rattle.decoder.proofs.Types.{AllFit, zero-fits, nil-fits, cons-fits, append-fits, drop-fits, append-words, take-words, drop-words, zeros-words}
-use Rattle.cng.specs.Noise.{flatLine, cngReset, cngReady, smoothedLine, smoothedLines, nextGain, smoothedGain, movedIn, tracked, seedAt, noiseSignal, silenced, sounded, addedTo, withNoise, comfortNoise}
+use Rattle.decoder.specs.With.{withNoise}
+use Rattle.cng.specs.Noise.{flatLine, cngReset, cngReady, smoothedLine, smoothedLines, nextGain, smoothedGain, movedIn, tracked, seedAt, noiseSignal, silenced, sounded, addedTo, comfortNoise}
 use Rattle.cng.proofs.Numbers.{flat-le}
 use Rattle.cng.proofs.Places.{room, place-lt}
 use Rattle.cng.proofs.Signals.{noise-length}
@@ -52,9 +53,9 @@ unfolding silenced
 silenced-held r d h b =
     record { «cng_smth_nlsf_q15» = b .«cng_smth_nlsf_q15»; «cng_smth_gain_q16» = b .«cng_smth_gain_q16» }
 
-sounded-held : (r d n : ℕ) (h : SilkCNGState) → CngHeldBounds r h → CngHeldBounds r (sounded d h n)
+sounded-held : (e : ℤ) (r d n : ℕ) (h : SilkCNGState) → CngHeldBounds r h → CngHeldBounds r (sounded e d h n)
 unfolding sounded
-sounded-held r d n h b =
+sounded-held e r d n h b =
     record { «cng_smth_nlsf_q15» = b .«cng_smth_nlsf_q15»; «cng_smth_gain_q16» = b .«cng_smth_gain_q16» }
 
 tracked-held : (p : Shape) (exc lines gains : List ℤ) (h : SilkCNGState) (low : ℕ) → CngHeldBounds (p .rate) h → AllBetween 0 32767 lines (orderOf (p .rate)) → AllBetween low 1686110208 gains (p .subframes)
@@ -78,7 +79,7 @@ comfort-held s gains n frame low b lines g =
     let held = ready-held r (s .«s_cng») b in
     by-cases p s gains n frame (λ (x : Framed). CngHeldBounds r (x .state .«s_cng»))
     (λ e. silenced-held r (orderOf r) _ (either (CngHeldBounds r) (eqℤ (s .«prev_signal_type») (pos 0)) (tracked-held p (s .«exc_q14») (s .«prev_nlsf_q15») gains h low held lines (g e)) held))
-    (λ gain. sounded-held r (orderOf r) n h held)
+    (λ gain. sounded-held (s .settings .edition) r (orderOf r) n h held)
 
 pub comfort-fits : (s : SilkDecoderState) (gains : List ℤ) (n : ℕ) (frame : List ℤ) (low : ℕ) → CngBounds (rateOf (s .«fs_khz»)) (s .«s_cng»)
     → AllBetween 0 32767 (s .«prev_nlsf_q15») (orderOf (rateOf (s .«fs_khz»)))
@@ -117,7 +118,7 @@ reset-typed r h l o t =
       «fs_khz» = abs-fits (pos r) (omega arith);
     }
 
-ready-typed : (r : ℕ) (h : SilkCNGState) → r ≤ 16 → orderOf r ≤ 16 → TypedCng h → TypedCng (cngReady r h)
+pub ready-typed : (r : ℕ) (h : SilkCNGState) → r ≤ 16 → orderOf r ≤ 16 → TypedCng h → TypedCng (cngReady r h)
 unfolding cngReady
 ready-typed r h l o t = either TypedCng (eqℤ (pos r) (h .«fs_khz»)) t (reset-typed r h l o t)
 
@@ -176,31 +177,26 @@ unfolding seedAt
 seed-fits seed zero h = h
 seed-fits seed (suc n) h = rand-fits _
 
-signal-fits : (d : ℕ) (h : SilkCNGState) (n : ℕ) → AllFit w32 (h .«cng_synth_state») → AllFit w32 (noiseSignal d h n)
+signal-fits : (e : ℤ) (d : ℕ) (h : SilkCNGState) (n : ℕ) → AllFit w32 (h .«cng_synth_state») → AllFit w32 (noiseSignal e d h n)
 unfolding noiseSignal
-signal-fits d h n k = synthesis-fits (h .«cng_synth_state») _ _ d n k
+signal-fits e d h n k = synthesis-fits (h .«cng_synth_state») _ _ d n k
 
-sounded-typed : (d n : ℕ) (h : SilkCNGState) → TypedCng h → TypedCng (sounded d h n)
+sounded-typed : (e : ℤ) (d n : ℕ) (h : SilkCNGState) → TypedCng h → TypedCng (sounded e d h n)
 unfolding sounded
-sounded-typed d n h t =
-    let s = noiseSignal d h n in
+sounded-typed e d n h t =
+    let s = noiseSignal e d h n in
     record {
       «cng_exc_buf_q14» = t .«cng_exc_buf_q14»;
       «cng_smth_nlsf_q15» = t .«cng_smth_nlsf_q15»;
       «cng_synth_state» =
           record {
-            count = length-drop n s ∙ omega (arith, noise-length d h n (t .«cng_synth_state» .count));
-            fits = drop-fits n s (signal-fits d h n (t .«cng_synth_state» .fits));
+            count = length-drop n s ∙ omega (arith, noise-length e d h n (t .«cng_synth_state» .count));
+            fits = drop-fits n s (signal-fits e d h n (t .«cng_synth_state» .fits));
           };
       «cng_smth_gain_q16» = t .«cng_smth_gain_q16»;
       «rand_seed» = seed-fits (h .«rand_seed») n (t .«rand_seed»);
       «fs_khz» = t .«fs_khz»;
     }
-
-with-typed : (s : SilkDecoderState) (h : SilkCNGState) → Typed s → TypedCng h → Typed (withNoise s h)
-with-typed s h t c =
-    typed-build t (t .«prev_gain_q16») (t .«exc_q14») (t .«s_lpc_q14_buf») (t .«out_buf») (t .«lag_prev») (t .«prev_nlsf_q15»)
-    (t .«first_frame_after_reset») c (t .«loss_cnt») (t .«prev_signal_type») (t .«s_plc»)
 
 pub comfort-typed : (s : SilkDecoderState) (gains : List ℤ) (n : ℕ) (frame : List ℤ) → Shaped (rateOf (s .«fs_khz»)) (countOf (s .«nb_subfr»))
     → AllFit w32 gains → Typed s → Typed (comfortNoise (shapeOf s) s gains n frame .state)
@@ -209,8 +205,8 @@ comfort-typed s gains n frame b g t =
     let h = cngReady (p .rate) (s .«s_cng») in
     let th = ready-typed (p .rate) (s .«s_cng») (b .rate-high) (b .order-high) (t .«s_cng») in
     by-cases p s gains n frame (λ (x : Framed). Typed (x .state))
-    (λ e. with-typed s _ t (silenced-typed (orderOf (p .rate)) _ (b .order-high) (either TypedCng (eqℤ (s .«prev_signal_type») (pos 0)) (tracked-typed p (s .«exc_q14») (s .«prev_nlsf_q15») gains h b (t .«exc_q14») g th) th)))
-    (λ gain. with-typed s _ t (sounded-typed (orderOf (p .rate)) n h th))
+    (λ e. typed-noise t (silenced-typed (orderOf (p .rate)) _ (b .order-high) (either TypedCng (eqℤ (s .«prev_signal_type») (pos 0)) (tracked-typed p (s .«exc_q14») (s .«prev_nlsf_q15») gains h b (t .«exc_q14») g th) th)))
+    (λ gain. typed-noise t (sounded-typed (s .settings .edition) (orderOf (p .rate)) n h th))
 
 -- ---- the frame
 added-words : (m n : ℕ) (frame signal : List ℤ) (gain : ℤ) → n ≤ m → Words w16 m frame → Words w16 m (addedTo frame signal gain n)

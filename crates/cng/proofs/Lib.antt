@@ -6,3 +6,4 @@ pub mod Lines
 pub mod Cases
 pub mod Toward
 pub mod Kept
+pub mod Filters

@@ -60,9 +60,9 @@ more-zeros d i h =
     ∙ ap (λ (r : List ℤ). r ++ drop (suc i) d) (sym (replicate-snoc i (pos 0)))
 
 -- ---- the parts of the buffer after the synthesis
-pub noise-length : (d : ℕ) (h : SilkCNGState) (n : ℕ) → length (h .«cng_synth_state») ≡ 16 → length (noiseSignal d h n) ≡ 16 + n
+pub noise-length : (e : ℤ) (d : ℕ) (h : SilkCNGState) (n : ℕ) → length (h .«cng_synth_state») ≡ 16 → length (noiseSignal e d h n) ≡ 16 + n
 unfolding noiseSignal
-noise-length d h n e = synth-length (h .«cng_synth_state») _ _ d n ∙ ap (λ (k : ℕ). k + n) e
+noise-length e d h n l = synth-length (h .«cng_synth_state») _ _ d n ∙ ap (λ (k : ℕ). k + n) l
 
 module _ (s rest : List ℤ) (n : ℕ) (hs : length s ≡ 16 + n) where
   -- what comes after the first k, of which there are j

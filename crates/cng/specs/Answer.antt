@@ -8,11 +8,12 @@ use Rattle.refusal.specs.Refusals.{ifAccepted}
 use Rattle.refusal.specs.declared.Refusal.{Refusal}
 use Rattle.decoder.specs.State.{shapeOf}
 use Rattle.decoder.specs.Outcome.{Framed}
+use Rattle.decoder.specs.Answer.{stateAnswer}
+use Rattle.decoder.specs.declared.StateAnswer.{StateAnswer}
 use Rattle.decoder.specs.declared.SilkDecoderState.{SilkDecoderState}
 use Rattle.decoder.specs.declared.SilkDecoderControl.{SilkDecoderControl}
 use Rattle.judge.specs.Rows.{cngRows}
 use Rattle.cng.specs.Noise.{comfortNoise}
-use Rattle.cng.specs.declared.CngAnswer.{CngAnswer}
 
 module _ (s : SilkDecoderState) (c : SilkDecoderControl) (buffer : List ℤ) (n : ℕ) where
   unfoldable pub cngRefusal : Refusal
@@ -21,9 +22,8 @@ module _ (s : SilkDecoderState) (c : SilkDecoderControl) (buffer : List ℤ) (n 
   abbrev pub cngOutcome : Framed
   cngOutcome = comfortNoise (shapeOf s) s (c .«gains_q16») n buffer
 
-  -- the new state, or the one lent
-  unfoldable pub cngAnswer : CngAnswer
-  cngAnswer = record { refusal = cngRefusal; state = ifAccepted cngRefusal (cngOutcome .state) s }
+  unfoldable pub cngAnswer : StateAnswer
+  cngAnswer = stateAnswer cngRefusal (cngOutcome .state) s
 
   -- the samples with noise and the rest of what was lent, or all of it
   unfoldable pub cngOutput : List ℤ

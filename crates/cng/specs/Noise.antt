@@ -13,7 +13,8 @@ use Rattle.macros.specs.Fixed.{smulww, smulwb, smultt, rand, sqrtApprox}
 use Rattle.sigproc.specs.Synthesis.{synthesis, played}
 use Rattle.nlsf.specs.Filter.{nlsf2a}
 use Rattle.shape.specs.Shape.{Shape, subfrLength, orderOf, lpcOrder}
-use Rattle.decoder.specs.Outcome.{Framed, build}
+use Rattle.decoder.specs.With.{withNoise}
+use Rattle.decoder.specs.Outcome.{Framed}
 use Rattle.decoder.specs.declared.SilkCNGState.{SilkCNGState}
 use Rattle.decoder.specs.declared.SilkDecoderState.{SilkDecoderState}
 use Rattle.cng.specs.declared.Peak.{Peak}
@@ -120,13 +121,14 @@ seedAt seed (suc i) = rand (seedAt seed i)
 unfoldable pub drawn : List ℤ → ℕ → ℤ → ℕ → List ℤ
 drawn exc mask seed n = tabulate n (λ i. getD exc (modℤ (floorDiv (seedAt seed (suc i)) (2 ^ 24)) (mask + 1)) (pos 0))
 
--- the memory of 16 samples (Q14), and n of noise of order d
-unfoldable pub noiseSignal : ℕ → SilkCNGState → ℕ → List ℤ
-noiseSignal d h n =
-    synthesis (h .«cng_synth_state») (drawn (h .«cng_exc_buf_q14») (excMask n) (h .«rand_seed») n)
-    (nlsf2a (h .«cng_smth_nlsf_q15») d)
-    d
-    n
+-- the filter of noise of order d under an edition: that of the smoothed lines
+unfoldable pub noiseFilter : ℤ → ℕ → SilkCNGState → List ℤ
+noiseFilter e d h = nlsf2a e (h .«cng_smth_nlsf_q15») d
+
+-- the memory of 16 samples (Q14), and n of noise of order d under an edition
+unfoldable pub noiseSignal : ℤ → ℕ → SilkCNGState → ℕ → List ℤ
+noiseSignal e d h n =
+    synthesis (h .«cng_synth_state») (drawn (h .«cng_exc_buf_q14») (excMask n) (h .«rand_seed») n) (noiseFilter e d h) d n
 
 -- the first d places of the memory zeroed
 unfoldable pub silenced : ℕ → SilkCNGState → SilkCNGState
@@ -135,10 +137,10 @@ silenced d h =
     (h .«rand_seed»)
     (h .«fs_khz»)
 
--- after n samples of noise of order d
-unfoldable pub sounded : ℕ → SilkCNGState → ℕ → SilkCNGState
-sounded d h n =
-    holdNoise (h .«cng_exc_buf_q14») (h .«cng_smth_nlsf_q15») (drop n (noiseSignal d h n)) (h .«cng_smth_gain_q16»)
+-- after n samples of noise of order d under an edition
+unfoldable pub sounded : ℤ → ℕ → SilkCNGState → ℕ → SilkCNGState
+sounded e d h n =
+    holdNoise (h .«cng_exc_buf_q14») (h .«cng_smth_nlsf_q15») (drop n (noiseSignal e d h n)) (h .«cng_smth_gain_q16»)
     (seedAt (h .«rand_seed») n)
     (h .«fs_khz»)
 
@@ -147,10 +149,10 @@ unfoldable pub addedTo : List ℤ → List ℤ → ℤ → ℕ → List ℤ
 addedTo frame signal gain n =
     tabulate n (λ i. sat16 (getD frame i (pos 0) +ℤ played gain (getD signal (16 + i) (pos 0)))) ++ drop n frame
 
--- n samples of a frame with noise of order d added, by concealment's noise scale and its last gain
-abbrev pub sounding : ℕ → ℤ → ℤ → SilkCNGState → ℕ → List ℤ → List ℤ
-sounding d scale last h n frame =
-    addedTo frame (noiseSignal d h n) (noiseGain scale last (h .«cng_smth_gain_q16»)) n
+-- n samples of a frame with noise of order d under an edition added, by concealment's noise scale and its last gain
+abbrev pub sounding : ℤ → ℕ → ℤ → ℤ → SilkCNGState → ℕ → List ℤ → List ℤ
+sounding e d scale last h n frame =
+    addedTo frame (noiseSignal e d h n) (noiseGain scale last (h .«cng_smth_gain_q16»)) n
 
 -- what is held after a received frame of a type: the background is followed in one without voice activity
 abbrev pub heardNoise : Shape → List ℤ → List ℤ → List ℤ → ℤ → SilkCNGState → SilkCNGState
@@ -158,20 +160,11 @@ heardNoise p exc lines gains type held =
     let h = cngReady (p .rate) held in
     silenced (lpcOrder p) (cond (eqℤ type (pos 0)) (tracked p exc lines gains h) h)
 
--- a state with another noise in it
-abbrev pub withNoise : SilkDecoderState → SilkCNGState → SilkDecoderState
-withNoise s h =
-    build s (s .«prev_gain_q16») (s .«exc_q14») (s .«s_lpc_q14_buf») (s .«out_buf») (s .«lag_prev») (s .«prev_nlsf_q15»)
-    (s .«first_frame_after_reset»)
-    h
-    (s .«loss_cnt»)
-    (s .«prev_signal_type»)
-    (s .«s_plc»)
-
 -- silk_cng on the first n samples of a frame: with no loss it leaves the frame and zeroes the first order places of its memory
 unfoldable pub comfortNoise : Shape → SilkDecoderState → List ℤ → ℕ → List ℤ → Framed
 comfortNoise p s gains n frame =
     let d = lpcOrder p in
+    let e = s .settings .edition in
     let h = cngReady (p .rate) (s .«s_cng») in
     let plc = s .«s_plc» in
     cond (eqℤ (s .«loss_cnt») (pos 0))
@@ -180,6 +173,6 @@ comfortNoise p s gains n frame =
       frame = frame;
     })
     (record {
-      state = withNoise s (sounded d h n);
-      frame = sounding d (plc .«rand_scale_q14») (getD (plc .«prev_gain_q16») 1 (pos 0)) h n frame;
+      state = withNoise s (sounded e d h n);
+      frame = sounding e d (plc .«rand_scale_q14») (getD (plc .«prev_gain_q16») 1 (pos 0)) h n frame;
     })

@@ -1,8 +1,9 @@
 // Comfort noise (cng.rs).
-// Inner: every function but silk_cng.
+// Inner: every function but silk_cng and announced.
 use decoder::SilkCNGState;
 use decoder::SilkDecoderControl;
 use decoder::SilkDecoderState;
+use decoder::StateAnswer;
 use macros::silk_add_sat16;
 use macros::silk_rand;
 use macros::silk_smultt;
@@ -10,7 +11,6 @@ use macros::silk_smulwb;
 use macros::silk_smulww;
 use macros::silk_sqrt_approx;
 use nlsf::nlsf2a;
-use refusal::Refusal;
 use shape::Rate;
 use shape::count_of;
 use sigproc::copy32_at;
@@ -40,11 +40,7 @@ ghost use Rattle.decoder.specs.Ranges.{cngFits};
 ghost use Rattle.decoder.specs.State.{shapeOf};
 ghost use Rattle.cng.specs.Noise.{flatLine, cngReset, cngReady, smoothedLine, smoothedLines, louder, loudest, nextGain, smoothedGain, movedIn, tracked, noiseGain, excMask, Mask, seedAt, drawn, noiseSignal, silenced, sounded, sounding, heardNoise, comfortNoise};
 ghost use Rattle.cng.specs.Answer.{cngAnswer, cngOutput};
-
-pub struct CngAnswer {
-    pub refusal: Refusal,
-    pub state: SilkDecoderState,
-}
+ghost use Rattle.cng.specs.Announced.{Announced};
 
 // The largest gain and its place.
 struct Peak {
@@ -252,19 +248,19 @@ fn zeros16() -> [i16; 16]
 }
 
 // The filter of the first d lines, with zeros after it.
-fn noise_filter(lines: [i16; 16], d: usize) -> [i16; 16]
+fn noise_filter(lines: [i16; 16], d: usize, edition: i32) -> [i16; 16]
     requires { ⌜ ((d ≡ 10) ⊎ (d ≡ 16)) × (negativeLine lines d ≡ false) ⌝ }
-    ensures { λ r. ⌜ r ≡ nlsf2a lines d ++ drop d (replicate 16 (pos 0)) ⌝ }
+    ensures { λ r. ⌜ r ≡ nlsf2a edition lines d ++ drop d (replicate 16 (pos 0)) ⌝ }
 {
     let mut a = zeros16();
-    nlsf2a(&mut a[..d], &lines, d);
+    nlsf2a(&mut a[..d], &lines, d, edition);
     a
 }
 
 // The memory and the noise after it, and the generator after them.
-fn noise_signal(buf: &mut [i32], h: SilkCNGState, d: usize) -> i32
+fn noise_signal(buf: &mut [i32], h: SilkCNGState, d: usize, edition: i32) -> i32
     requires { ⌜ (16 ≤ length (now buf)) × ((d ≡ 10) ⊎ (d ≡ 16)) × (negativeLine (h .«cng_smth_nlsf_q15») d ≡ false) ⌝ }
-    ensures { λ r. ⌜ (r ≡ seedAt (h .«rand_seed») (length (now (buf .entry)) - 16)) × (now (buf .exit) ≡ noiseSignal d h (length (now (buf .entry)) - 16)) ⌝ }
+    ensures { λ r. ⌜ (r ≡ seedAt (h .«rand_seed») (length (now (buf .entry)) - 16)) × (now (buf .exit) ≡ noiseSignal edition d h (length (now (buf .entry)) - 16)) ⌝ }
 {
     let m = buf.len();
     let n = m - 16;
@@ -273,7 +269,7 @@ fn noise_signal(buf: &mut [i32], h: SilkCNGState, d: usize) -> i32
     let held = h.rand_seed;
     copy32_at(buf, 0, &memory);
     let seed = drawn(&mut buf[16..m], &h.cng_exc_buf_q14, exc_mask(n), held);
-    let a = noise_filter(lines, d);
+    let a = noise_filter(lines, d, edition);
     synthesis(buf, &a, d);
     seed
 }
@@ -295,15 +291,22 @@ fn zeros336() -> [i32; 336] {
 }
 
 // Noise of order d added to the frame.
-fn noise(h: SilkCNGState, d: usize, scale: i16, last: i32, frame: &mut [i16]) -> SilkCNGState
+fn noise(
+    h: SilkCNGState,
+    d: usize,
+    edition: i32,
+    scale: i16,
+    last: i32,
+    frame: &mut [i16],
+) -> SilkCNGState
     requires { ⌜ (length (now frame) ≤ 320) × ((d ≡ 10) ⊎ (d ≡ 16)) × (negativeLine (h .«cng_smth_nlsf_q15») d ≡ false) ⌝ }
-    ensures { λ r. ⌜ (r ≡ sounded d h (length (now (frame .entry))))
-        × (now (frame .exit) ≡ sounding d scale last h (length (now (frame .entry))) (now (frame .entry))) ⌝ }
+    ensures { λ r. ⌜ (r ≡ sounded edition d h (length (now (frame .entry))))
+        × (now (frame .exit) ≡ sounding edition d scale last h (length (now (frame .entry))) (now (frame .entry))) ⌝ }
 {
     let n = frame.len();
     let m = 16 + n;
     let mut buf = zeros336();
-    let seed = noise_signal(&mut buf[..m], h, d);
+    let seed = noise_signal(&mut buf[..m], h, d, edition);
     added(
         frame,
         &buf[16..m],
@@ -381,14 +384,21 @@ pub fn received(
 }
 
 // Noise added to a lost frame.
-pub fn lost(held: SilkCNGState, khz: i32, scale: i16, last: i32, frame: &mut [i16]) -> SilkCNGState
+pub fn lost(
+    held: SilkCNGState,
+    khz: i32,
+    edition: i32,
+    scale: i16,
+    last: i32,
+    frame: &mut [i16],
+) -> SilkCNGState
     requires { ⌜ (isRate khz ≡ true) × (cngFits (rateOf khz) held ≡ true) × (length (now frame) ≤ 320) ⌝ }
-    ensures { λ r. ⌜ (r ≡ sounded (orderOf (rateOf khz)) (cngReady (rateOf khz) held) (length (now (frame .entry))))
-        × (now (frame .exit) ≡ sounding (orderOf (rateOf khz)) scale last (cngReady (rateOf khz) held) (length (now (frame .entry))) (now (frame .entry))) ⌝ }
+    ensures { λ r. ⌜ (r ≡ sounded edition (orderOf (rateOf khz)) (cngReady (rateOf khz) held) (length (now (frame .entry))))
+        × (now (frame .exit) ≡ sounding edition (orderOf (rateOf khz)) scale last (cngReady (rateOf khz) held) (length (now (frame .entry))) (now (frame .entry))) ⌝ }
 {
     let d = Rate::lpc_order(khz);
     let h = ready(held, khz);
-    noise(h, d, scale, last, frame)
+    noise(h, d, edition, scale, last, frame)
 }
 
 // Comfort noise for a whole frame.
@@ -415,7 +425,15 @@ fn comfort_noise(s: SilkDecoderState, gains: &[i32; 4], frame: &mut [i16]) -> Si
         return t;
     }
     let plc = s.s_plc;
-    let new = lost(held, khz, plc.rand_scale_q14, plc.prev_gain_q16[1], frame);
+    let settings = s.settings;
+    let new = lost(
+        held,
+        khz,
+        settings.edition,
+        plc.rand_scale_q14,
+        plc.prev_gain_q16[1],
+        frame,
+    );
     t.s_cng = new;
     t
 }
@@ -426,14 +444,19 @@ pub fn silk_cng(
     c: SilkDecoderControl,
     frame: &mut [i16],
     n: usize,
-) -> CngAnswer
+) -> StateAnswer
     ensures { λ r. ⌜ (r ≡ cngAnswer s c (now (frame .entry)) n) × (now (frame .exit) ≡ cngOutput s c (now (frame .entry)) n) ⌝ }
 {
     let refusal = judge::cng(s, c, frame.len(), n);
     if refusal::number(refusal) != 0 {
-        return CngAnswer { refusal, state: s };
+        return StateAnswer { refusal, state: s };
     }
     let gains = c.gains_q16;
     let state = comfort_noise(s, &gains, &mut frame[..n]);
-    CngAnswer { refusal, state }
+    StateAnswer { refusal, state }
 }
+
+// The filter from lines is the one that noise has from the same lines, under the same edition.
+pub fn announced()
+    ensures { λ _. ⌜ Announced ⌝ }
+{}

@@ -1,4 +1,4 @@
--- A line of coefficients: whole numbers of 16 bits, each with a minus sign or none, with blanks or commas between them.
+-- A line of an edition and coefficients: whole numbers of 16 bits, each with a minus sign or none, with blanks or commas between them.
 use Prim.Native.Nat.{ℕ, min, _+_, _-_, _*_}
 use mathlib.Core.Bool.{Bool, true, false, cond, _&&_, _||_}
 use mathlib.Core.List.{List}
@@ -12,7 +12,7 @@ unfoldable pub between : List ℤ → ℕ → Bool → Entry
 between a count bad = record { a = a; count = count; bad = bad; size = 0; negative = false; inside = false }
 
 unfoldable pub blank : Entry
-blank = between (replicate 16 (pos 0)) 0 false
+blank = between (replicate 17 (pos 0)) 0 false
 
 -- a space, a tab, a carriage return or a comma
 unfoldable pub isBlank : ℕ → Bool
@@ -21,9 +21,9 @@ isBlank b = eqb b 32 || eqb b 9 || eqb b 13 || eqb b 44
 unfoldable pub number : ℕ → Bool → ℤ
 number size negative = cond negative (negℤ (pos size)) (pos size)
 
--- the number that is being read is one of the first 16, and of 16 bits
+-- the number that is being read is one of the first 17, and of 16 bits
 unfoldable pub fits : Entry → Bool
-fits e = ltb (e .count) 16 && ltb (e .size) (cond (e .negative) 32769 32768)
+fits e = ltb (e .count) 17 && ltb (e .size) (cond (e .negative) 32769 32768)
 
 unfoldable pub stored : Entry → Entry
 stored e = between (set (e .a) (e .count) (number (e .size) (e .negative))) (e .count + 1) (e .bad)

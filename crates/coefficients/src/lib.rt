@@ -1,4 +1,4 @@
-// The coefficients of a line of text, read byte by byte: up to 16 whole numbers of 16 bits, with blanks or commas between them.
+// An edition and coefficients on a line of text, read byte by byte: up to 17 whole numbers of 16 bits, with blanks or commas between them.
 // Inner: every function.
 use word::low16;
 use word::neg32;
@@ -11,7 +11,7 @@ ghost use Rattle.coefficients.specs.Line.{between, blank, isBlank, numbe
 
 // The numbers so far, and the one that is being read.
 pub struct Entry {
-    pub a: [i16; 16],
+    pub a: [i16; 17],
     pub count: usize,
     pub bad: bool,
     size: usize,
@@ -19,13 +19,13 @@ pub struct Entry {
     inside: bool,
 }
 
-fn zeros() -> [i16; 16]
-    ensures { λ r. ⌜ r ≡ replicate 16 (pos 0) ⌝ }
+fn zeros() -> [i16; 17]
+    ensures { λ r. ⌜ r ≡ replicate 17 (pos 0) ⌝ }
 {
-    [0; 16]
+    [0; 17]
 }
 
-fn between(a: [i16; 16], count: usize, bad: bool) -> Entry
+fn between(a: [i16; 17], count: usize, bad: bool) -> Entry
     ensures { λ r. ⌜ r ≡ between a count bad ⌝ }
 {
     Entry {
@@ -64,9 +64,9 @@ fn fits(e: Entry) -> bool
     ensures { λ r. ⌜ r ≡ fits e ⌝ }
 {
     if e.negative {
-        return (e.count < 16) & (e.size < 32769);
+        return (e.count < 17) & (e.size < 32769);
     }
-    (e.count < 16) & (e.size < 32768)
+    (e.count < 17) & (e.size < 32768)
 }
 
 fn worse(e: Entry) -> Entry

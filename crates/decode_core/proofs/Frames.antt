@@ -14,7 +14,7 @@ use Rattle.sigproc.specs.Place.{putAt}
 use Rattle.decoder.specs.Typed.{Words}
 use Rattle.shape.specs.Shape.{frameLength, countOf}
 use Rattle.decoder.specs.State.{shapeOf}
-use Rattle.decoder.specs.Outcome.{build}
+use Rattle.decoder.specs.With.{withGain, withExc, withMemory, withOutBuf}
 use Rattle.decoder.specs.declared.SilkDecoderState.{SilkDecoderState}
 use Rattle.decoder.specs.declared.SilkDecoderControl.{SilkDecoderControl}
 use Rattle.decoder.specs.declared.Params.{Params}
@@ -98,13 +98,13 @@ module _ (s : SilkDecoderState) (q : Params) (c : SilkDecoderControl) (rows : Li
   excited : exc ≡ coreExcitation (shapeOf s) q pulses ++ drop (frameLength (shapeOf s)) (s .«exc_q14»)
   excited = he ∙ λ i. excitation-is i ++ drop (frame-of s q f count hf hk i) (s .«exc_q14»)
 
-  pub decoded-state : build s (r .gain) exc memory ob (s .«lag_prev») (s .«prev_nlsf_q15») (s .«first_frame_after_reset») (s .«s_cng») (s .«loss_cnt») (s .«prev_signal_type») (s .«s_plc») ≡ decodeCore (shapeOf s) s q c rows pulses .state
+  pub decoded-state : withOutBuf (withMemory (withExc (withGain s (r .gain)) exc) memory) ob ≡ decodeCore (shapeOf s) s q c rows pulses .state
   unfolding decodeCore
   decoded-state =
       let g = l .gain ∙ ap (λ (x : Core). x .gain) whole in
       let m = l .memory ∙ ap (λ (x : Core). x .memory) whole in
       let o = l .buffer ∙ ap (λ (x : Core). x .buffer) whole in
-      λ i. build s (g i) (excited i) (m i) (o i) (s .«lag_prev») (s .«prev_nlsf_q15») (s .«first_frame_after_reset») (s .«s_cng») (s .«loss_cnt») (s .«prev_signal_type») (s .«s_plc»)
+      λ i. withOutBuf (withMemory (withExc (withGain s (g i)) (excited i)) (m i)) (o i)
 
   pub decoded-control : r .control ≡ decodeCore (shapeOf s) s q c rows pulses .control
   unfolding decodeCore

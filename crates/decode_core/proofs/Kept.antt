@@ -31,7 +31,7 @@ use Rattle.decoder.specs.declared.SilkDecoderState.{SilkDecoderState}
 use Rattle.decoder.specs.declared.SilkDecoderControl.{SilkDecoderControl}
 use Rattle.decoder.specs.declared.Params.{Params}
 use Rattle.decoder.proofs.Types.{zero-fits, replicate-fits, set-words}
-use Rattle.decoder.proofs.Built.{words, words-front, typed-build}
+use Rattle.decoder.proofs.Built.{words, words-front, typed-gain, typed-exc, typed-memory, typed-out-buf}
 use Rattle.excitation.specs.Excitation.{offsetQ14, level, excited, generatorAt, excitation}
 use Rattle.decode_core.specs.Core.{Core, transition, smoothed, gainAdjustment, settingOf, long, rewhitens, controlAt, bufferAt, subframe, subframes, start, coreExcitation, decodeCore}
 use Rattle.decode_core.specs.declared.Setting.{Setting}
@@ -228,17 +228,8 @@ module _ (p : Shape) (n : Shaped (p .rate) (p .subframes)) (s : SilkDecoderState
       let exc = coreExcitation p q pulses in
       let h = core-fits in
       let x = excitation-fits in
-      typed-build t (rw gain-left g)
-      (words-front exc (s .«exc_q14») x (t .«exc_q14») (omega (arith, n .frame-high, n .rate-high)))
-      (h .memory)
-      (h .buffer)
-      (t .«lag_prev»)
-      (t .«prev_nlsf_q15»)
-      (t .«first_frame_after_reset»)
-      (t .«s_cng»)
-      (t .«loss_cnt»)
-      (t .«prev_signal_type»)
-      (t .«s_plc»)
+      let e = typed-exc (typed-gain t {gain = core .gain} (rw gain-left g)) (words-front exc (s .«exc_q14») x (t .«exc_q14») (omega (arith, n .frame-high, n .rate-high))) in
+      typed-out-buf (typed-memory e (h .memory)) (h .buffer)
 
   pub core-gain : decodeCore p s q c rows pulses .state .«prev_gain_q16» ≡ getD (c .«gains_q16») (p .subframes - 1) (pos 0)
   unfolding decodeCore

@@ -16,7 +16,8 @@ use Rattle.sigproc.specs.Synthesis.{ltpPrediction, synthesis, played}
 use Rattle.shape.specs.Shape.{Shape, subfrLength, frameLength, memLength, lpcOrder}
 use Rattle.decoder.specs.Signals.{isVoiced}
 use Rattle.decoder.specs.Ranges.{within}
-use Rattle.decoder.specs.Outcome.{Outcome, build}
+use Rattle.decoder.specs.With.{withGain, withExc, withMemory, withOutBuf}
+use Rattle.decoder.specs.Outcome.{Outcome}
 use Rattle.decoder.specs.declared.SilkDecoderState.{SilkDecoderState}
 use Rattle.decoder.specs.declared.SilkDecoderControl.{SilkDecoderControl}
 use Rattle.decoder.specs.declared.Params.{Params}
@@ -179,10 +180,7 @@ decodeCore p s q c rows pulses =
     let exc = coreExcitation p q pulses in
     let b = subframes (settingOf p s q) rows exc (start p s c) (p .subframes) in
     record {
-      state =
-          build s (b .gain) (exc ++ drop (frameLength p) (s .«exc_q14»)) (b .memory) (b .buffer) (s .«lag_prev»)
-          (s .«prev_nlsf_q15») (s .«first_frame_after_reset») (s .«s_cng») (s .«loss_cnt») (s .«prev_signal_type»)
-          (s .«s_plc»);
+      state = withOutBuf (withMemory (withExc (withGain s (b .gain)) (exc ++ drop (frameLength p) (s .«exc_q14»))) (b .memory)) (b .buffer);
       control = b .control;
       samples = b .samples;
     }

@@ -1,5 +1,6 @@
 // A received frame, from its excitation through long-term and short-term synthesis (decode_core.rs).
 // Inner: every function but silk_decode_core and core_excitation.
+use decoder::Answer;
 use decoder::Params;
 use decoder::SilkDecoderControl;
 use decoder::SilkDecoderState;
@@ -11,7 +12,6 @@ use macros::silk_div32_varq;
 use macros::silk_inverse32_varq;
 use macros::silk_smulwb;
 use macros::silk_smulww;
-use refusal::Refusal;
 use shape::Rate;
 use shape::count_of;
 use sigproc::copy16_at;
@@ -45,12 +45,6 @@ ghost use Rattle.decode_core.specs.Core.{smoothed, refilled, ltpPast, lt
 ghost use Rattle.decode_core.specs.Answer.{coreAnswer, coreOutput};
 ghost use Rattle.decode_core.specs.Standard.{CoreStandard};
 ghost use Rattle.decode_core.specs.Ready.{Ready, LongTerm, Playable, Framed, held, begin, Left};
-
-pub struct CoreAnswer {
-    pub refusal: Refusal,
-    pub state: SilkDecoderState,
-    pub control: SilkDecoderControl,
-}
 
 // What a frame leaves beside its samples.
 struct CoreState {
@@ -561,12 +555,12 @@ pub fn silk_decode_core(
     rows: [[i16; 16]; 2],
     pulses: &[i16],
     xq: &mut [i16],
-) -> CoreAnswer
+) -> Answer
     ensures { λ r. ⌜ (r ≡ coreAnswer s q c rows (now (pulses .entry)) (now (xq .entry))) × (now (xq .exit) ≡ coreOutput s q c rows (now (pulses .entry)) (now (xq .entry))) ⌝ }
 {
     let refusal = judge::core(s, q, c, pulses.len(), xq.len());
     if refusal::number(refusal) != 0 {
-        return CoreAnswer {
+        return Answer {
             refusal,
             state: s,
             control: c,
@@ -575,7 +569,7 @@ pub fn silk_decode_core(
     let d = decoded(s, q, c, rows, pulses, xq);
     let state = d.state;
     let control = d.control;
-    CoreAnswer {
+    Answer {
         refusal,
         state,
         control,

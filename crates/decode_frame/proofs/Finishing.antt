@@ -22,8 +22,9 @@ use Rattle.decoder.specs.declared.SilkDecoderState.{SilkDecoderState}
 use Rattle.decoder.proofs.Between.{Between, AllBetween}
 use Rattle.decoder.proofs.Bounds.{DecoderBounds, PlcBounds, CngHeldBounds, CngBounds}
 use Rattle.decoder.proofs.Types.{take-words}
-use Rattle.decoder.proofs.Built.{words, words-front, typed-build}
-use Rattle.cng.specs.Noise.{withNoise, comfortNoise}
+use Rattle.decoder.proofs.Built.{words, words-front, typed-lines, typed-out-buf, typed-lag}
+use Rattle.decoder.specs.With.{withNoise}
+use Rattle.cng.specs.Noise.{comfortNoise}
 use Rattle.cng.proofs.Cases.{by-cases}
 use Rattle.cng.proofs.Kept.{comfort-held, comfort-typed, comfort-frame}
 use Rattle.glue.specs.Glue.{glueFrames}
@@ -69,13 +70,7 @@ module _ (p : Shape) (q : Shaped (p .rate) (p .subframes)) where
   pub lined-typed : (s : SilkDecoderState) (lines : List ℤ) → Typed s → Words w16 16 lines → Typed (lined p s lines)
   unfolding lined
   lined-typed s lines t w =
-      typed-build t (t .«prev_gain_q16») (t .«exc_q14») (t .«s_lpc_q14_buf») (t .«out_buf») (t .«lag_prev»)
-      (words-front (take (lpcOrder p) lines) (s .«prev_nlsf_q15») (take-words (lpcOrder p) lines (q .order-high) w) (t .«prev_nlsf_q15») (q .order-high))
-      (t .«first_frame_after_reset»)
-      (t .«s_cng»)
-      (t .«loss_cnt»)
-      (t .«prev_signal_type»)
-      (t .«s_plc»)
+      typed-lines t (words-front (take (lpcOrder p) lines) (s .«prev_nlsf_q15») (take-words (lpcOrder p) lines (q .order-high) w) (t .«prev_nlsf_q15») (q .order-high))
 
   pub lined-lines : (s : SilkDecoderState) (lines : List ℤ) → Words w16 16 lines → AllBetween 0 32767 lines (lpcOrder p) → AllBetween 0 32767 (lined p s lines .«prev_nlsf_q15») (lpcOrder p)
   unfolding lined
@@ -88,15 +83,8 @@ module _ (p : Shape) (q : Shaped (p .rate) (p .subframes)) where
   unfolding remembered
   remembered-typed s frame t w =
       let b = t .«out_buf» in
-      typed-build t (t .«prev_gain_q16») (t .«exc_q14») (t .«s_lpc_q14_buf»)
+      typed-out-buf t
       (words (length-updateOutBuf (s .«out_buf») (memLength p) frame (omega (arith, w .count, q .frame-high)) (omega (arith, b .count, q .rate-high)) ∙ b .count) (updateOutBuf-fits (s .«out_buf») (memLength p) frame (b .fits) (w .fits)))
-      (t .«lag_prev»)
-      (t .«prev_nlsf_q15»)
-      (t .«first_frame_after_reset»)
-      (t .«s_cng»)
-      (t .«loss_cnt»)
-      (t .«prev_signal_type»)
-      (t .«s_plc»)
 
   -- ---- noise, gluing and lag_prev
   module _ (o : Outcome) (b : Before p o) where
@@ -147,13 +135,7 @@ module _ (p : Shape) (q : Shaped (p .rate) (p .subframes)) where
     typed-kept : Typed (finished p o .state)
     unfolding finished lagKept
     typed-kept =
-        let t = glued-typed noised (frameLength p) frame least most frame-fine noised-fine in
-        typed-build t (t .«prev_gain_q16») (t .«exc_q14») (t .«s_lpc_q14_buf») (t .«out_buf») (b .control .«pitch_l» .fits (p .subframes - 1)) (t .«prev_nlsf_q15»)
-        (t .«first_frame_after_reset»)
-        (t .«s_cng»)
-        (t .«loss_cnt»)
-        (t .«prev_signal_type»)
-        (t .«s_plc»)
+        typed-lag (glued-typed noised (frameLength p) frame least most frame-fine noised-fine) (b .control .«pitch_l» .fits (p .subframes - 1))
 
     decoder-kept : DecoderBounds (p .rate) (finished p o .state)
     unfolding lagKept glueFrames

@@ -9,7 +9,8 @@ use Rattle.word.specs.Int.{eqℤ}
 use Rattle.sigproc.specs.Energy.{energyAt, energyShift}
 use Rattle.sigproc.specs.Place.{updateOutBuf}
 use Rattle.shape.specs.Shape.{Shape, frameLength, memLength, lpcOrder}
-use Rattle.decoder.specs.Outcome.{Outcome, build}
+use Rattle.decoder.specs.With.{withOutBuf, withLag, withFirst, withNoise, withLosses, withType, withPlc}
+use Rattle.decoder.specs.Outcome.{Outcome}
 use Rattle.decoder.specs.Signals.{signalNumber}
 use Rattle.decoder.specs.declared.SilkCNGState.{SilkCNGState}
 use Rattle.decoder.specs.declared.SilkPLCState.{SilkPLCState}
@@ -17,7 +18,7 @@ use Rattle.decoder.specs.declared.SilkDecoderState.{SilkDecoderState}
 use Rattle.decoder.specs.declared.SilkDecoderControl.{SilkDecoderControl}
 use Rattle.decoder.specs.declared.Signal.{Signal}
 use Rattle.plc.specs.Update.{updatedBy, plcUpdate}
-use Rattle.cng.specs.Noise.{cngReady, heardNoise, sounding, sounded, withNoise, comfortNoise}
+use Rattle.cng.specs.Noise.{cngReady, heardNoise, sounding, sounded, comfortNoise}
 use Rattle.cng.proofs.Cases.{lost-is}
 use Rattle.glue.specs.Glue.{holdEnergy, joined, glueFrames}
 use Rattle.decode_frame.specs.WholeFrame.{remembered, resumed, lagKept, finished}
@@ -31,13 +32,16 @@ module _ (p : Shape) (t : SilkDecoderState) (c : SilkDecoderControl) (x : List �
   heard =
       record {
         state =
-            build t (t .«prev_gain_q16») (t .«exc_q14») (t .«s_lpc_q14_buf») (updateOutBuf (t .«out_buf») (memLength p) x)
-            (getD (c .«pitch_l») (p .subframes - 1) (pos 0))
-            (t .«prev_nlsf_q15»)
-            (pos 0)
-            (heardNoise p (t .«exc_q14») (t .«prev_nlsf_q15») (c .«gains_q16») (signalNumber signal) (t .«s_cng»))
-            (pos 0)
-            (signalNumber signal)
+            withPlc
+            (withType
+            (withLosses
+            (withNoise
+            (withFirst
+            (withLag (withOutBuf t (updateOutBuf (t .«out_buf») (memLength p) x)) (getD (c .«pitch_l») (p .subframes - 1) (pos 0)))
+            (pos 0))
+            (heardNoise p (t .«exc_q14») (t .«prev_nlsf_q15») (c .«gains_q16») (signalNumber signal) (t .«s_cng»)))
+            (pos 0))
+            (signalNumber signal))
             (holdEnergy updated (pos 0) (updated .«conc_energy») (updated .«conc_energy_shift»));
         control = c;
         samples = cond (eqℤ (updated .«last_frame_lost») (pos 0)) x (joined (updated .«conc_energy») (updated .«conc_energy_shift») x);
@@ -52,24 +56,20 @@ module _ (p : Shape) (s : SilkDecoderState) (c : SilkDecoderControl) (x : List �
   before = cngReady (p .rate) (s .«s_cng»)
 
   abbrev pub sound : List ℤ
-  sound = sounding (lpcOrder p) (s .«s_plc» .«rand_scale_q14») (getD (s .«s_plc» .«prev_gain_q16») 1 (pos 0)) before (frameLength p) x
+  sound = sounding (s .settings .edition) (lpcOrder p) (s .«s_plc» .«rand_scale_q14») (getD (s .«s_plc» .«prev_gain_q16») 1 (pos 0)) before (frameLength p) x
 
   abbrev pub faded : Outcome
   faded =
       record {
         state =
-            build s (s .«prev_gain_q16») (s .«exc_q14») (s .«s_lpc_q14_buf») (s .«out_buf») (getD (c .«pitch_l») (p .subframes - 1) (pos 0))
-            (s .«prev_nlsf_q15»)
-            (s .«first_frame_after_reset»)
-            (sounded (lpcOrder p) before (frameLength p))
-            (s .«loss_cnt»)
-            (s .«prev_signal_type»)
+            withPlc
+            (withNoise (withLag s (getD (c .«pitch_l») (p .subframes - 1) (pos 0))) (sounded (s .settings .edition) (lpcOrder p) before (frameLength p)))
             (holdEnergy (s .«s_plc») (pos 1) (pos (energyAt sound (energyShift sound))) (pos (energyShift sound)));
         control = c;
         samples = sound;
       }
 
-  joined-on : eqℤ (s .«loss_cnt») (pos 0) ≡ false → glued p c (record { state = withNoise s (sounded (lpcOrder p) before (frameLength p)); frame = sound }) ≡ faded
+  joined-on : eqℤ (s .«loss_cnt») (pos 0) ≡ false → glued p c (record { state = withNoise s (sounded (s .settings .edition) (lpcOrder p) before (frameLength p)); frame = sound }) ≡ faded
   unfolding glueFrames lagKept
   joined-on e = rw e refl
 

@@ -18,6 +18,7 @@ use Rattle.shape.proofs.Shapes.{Shaped}
 use Rattle.decoder.specs.Signals.{signalNumber, isVoiced}
 use Rattle.decoder.specs.State.{shapeOf}
 use Rattle.decoder.specs.Ranges.{linesFit}
+use Rattle.decoder.specs.Settings.{settingsFit}
 use Rattle.decoder.specs.Rows.{sizeRow, historyRow}
 use Rattle.decoder.specs.Accepted.{Accepted}
 use Rattle.decoder.specs.Outcome.{Outcome}
@@ -27,7 +28,7 @@ use Rattle.decoder.specs.declared.SilkDecoderControl.{SilkDecoderControl}
 use Rattle.decoder.specs.declared.Params.{Params}
 use Rattle.decoder.proofs.Between.{Between, AllBetween, all-between}
 use Rattle.decoder.proofs.Bounds.{PlcBounds, CngBounds, bounds, history-fits}
-use Rattle.decoder.proofs.Built.{in-range, wider, between-32, typed-build}
+use Rattle.decoder.proofs.Built.{in-range, wider, between-32, typed-type, typed-plc, typed-losses, typed-first}
 use Rattle.judge.specs.Taps.{tapSum}
 use Rattle.judge.proofs.Bounds.{ParamsFit}
 use Rattle.glue.specs.Glue.{glueFrames}
@@ -138,12 +139,8 @@ module _ (p : Shape) (q : Shaped (p .rate) (p .subframes)) (s : SilkDecoderState
     after-typed : Typed after
     unfolding resumed plcUpdate
     after-typed =
-        let t = history-typed in
-        typed-build t (t .«prev_gain_q16») (t .«exc_q14») (t .«s_lpc_q14_buf») (t .«out_buf») (t .«lag_prev») (t .«prev_nlsf_q15») (record { sfits = omega arith })
-        (t .«s_cng»)
-        (record { sfits = omega arith })
-        (between-32 (fit .type) (omega arith))
-        held-typed
+        let t = typed-plc (typed-type history-typed (between-32 (fit .type) (omega arith))) held-typed in
+        typed-first (typed-losses (typed-type t (between-32 (fit .type) (omega arith))) (record { sfits = omega arith })) (record { sfits = omega arith })
 
     gain-kept : Between 65536 1686110208 (decoded .state .«prev_gain_q16»)
     gain-kept = rw (core-gain p q start start-typed f c tc rows pulses tp) (wider 65536 1686110208 (omega arith) (le-refl _) last-gain)
@@ -197,38 +194,38 @@ fine s g =
 shaped : (s : SilkDecoderState) → Good s → Shaped (shapeOf s .rate) (shapeOf s .subframes)
 shaped s g = bounds (rateOf (s .«fs_khz»)) s (g .accepted) .sizes .bounds
 
--- a state of the same sizes
-good : (s t : SilkDecoderState) → Good s → t .«fs_khz» ≡ s .«fs_khz» → sizeRow t ≡ sizeRow s → Fine (rateOf (s .«fs_khz»)) t → Good t
-good s t g e f k =
+-- the sizes and the settings, which a frame leaves
+abbrev SameSizes : SilkDecoderState → SilkDecoderState → Type 0
+SameSizes s t = (t .«fs_khz» ≡ s .«fs_khz») × (sizeRow t ≡ sizeRow s) × (t .settings ≡ s .settings)
+
+-- a state of the same sizes and settings
+good : (s t : SilkDecoderState) → Good s → SameSizes s t → Fine (rateOf (s .«fs_khz»)) t → Good t
+good s t g z k =
     record {
       accepted =
           record {
-            rate = ap (λ (z : ℤ). not (isRate z)) e ∙ g .accepted .rate;
-            size = f ∙ g .accepted .size;
-            history = subst (λ (r : ℕ). historyRow r t ≡ false) (ap rateOf (sym e)) (history-fits (rateOf (s .«fs_khz»)) t (k .decoder) (k .plc) (k .cng));
+            rate = ap (λ (z : ℤ). not (isRate z)) (z .0) ∙ g .accepted .rate;
+            size = z .1 ∙ g .accepted .size;
+            history =
+                subst (λ (r : ℕ). historyRow r t ≡ false) (ap rateOf (sym (z .0)))
+                (history-fits (rateOf (s .«fs_khz»)) t (k .decoder) (k .plc) (k .cng) (ap settingsFit (z .2) ∙ bounds (rateOf (s .«fs_khz»)) s (g .accepted) .settings));
           };
       typed = k .typed;
     }
 
--- the sizes that a frame leaves
-abbrev SameSizes : SilkDecoderState → SilkDecoderState → Type 0
-SameSizes s t = (t .«fs_khz» ≡ s .«fs_khz») × (sizeRow t ≡ sizeRow s)
-
 lost-sizes : (p : Shape) (s : SilkDecoderState) (c : SilkDecoderControl) → SameSizes s (lost p s c .state)
 unfolding sizeRow lost lagKept glueFrames remembered plcConceal
-lost-sizes p s c = finished-keeps p _ (SameSizes s) (λ h frame. (refl, refl))
+lost-sizes p s c = finished-keeps p _ (SameSizes s) (λ h frame. (refl, refl, refl))
 
 received-sizes : (p : Shape) (s : SilkDecoderState) (f : Params) (c : SilkDecoderControl) (rows : List (List ℤ)) (lines pulses : List ℤ) → SameSizes s (received p s f c rows lines pulses .state)
 unfolding sizeRow received lagKept glueFrames resumed plcUpdate remembered decodeCore lined
-received-sizes p s f c rows lines pulses = finished-keeps p _ (SameSizes s) (λ h frame. (refl, refl))
+received-sizes p s f c rows lines pulses = finished-keeps p _ (SameSizes s) (λ h frame. (refl, refl, refl))
 
 pub lost-good : (s : SilkDecoderState) (c : SilkDecoderControl) → Good s → TypedControl c → eqℤ (s .«loss_cnt») (pos 2147483647) ≡ false → Good (lost (shapeOf s) s c .state)
 lost-good s c g tc free =
-    let z = lost-sizes (shapeOf s) s c in
-    good s _ g (z .0) (z .1) (lost-fine (shapeOf s) (shaped s g) s refl (fine s g) c tc free)
+    good s _ g (lost-sizes (shapeOf s) s c) (lost-fine (shapeOf s) (shaped s g) s refl (fine s g) c tc free)
 
 pub received-good : (s : SilkDecoderState) (f : Params) (c : SilkDecoderControl) (rows : List (List ℤ)) (lines pulses : List ℤ) → Good s → TypedControl c → TypedRows rows → TypedLines lines → Fit w16 pulses → ParamsFit (shapeOf s) f c → linesFit (shapeOf s .rate) lines ≡ true → Good (received (shapeOf s) s f c rows lines pulses .state)
 received-good s f c rows lines pulses g tc tr tl tp fit lf =
-    let z = received-sizes (shapeOf s) s f c rows lines pulses in
-    good s _ g (z .0) (z .1)
+    good s _ g (received-sizes (shapeOf s) s f c rows lines pulses)
     (received-fine (shapeOf s) (shaped s g) s refl (fine s g) f c tc rows tr lines tl pulses tp fit (all-between 0 32767 lines (lpcOrder (shapeOf s)) lf))

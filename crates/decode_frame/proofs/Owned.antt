@@ -27,7 +27,8 @@ use Rattle.plc.specs.Conceal.{plcConceal, heldAfter}
 use Rattle.plc.proofs.Ready.{ready-rate}
 use Rattle.glue.specs.Glue.{glueFrames}
 use Rattle.glue.proofs.Glued.{glued}
-use Rattle.cng.specs.Noise.{withNoise}
+use Rattle.decoder.specs.With.{withNoise}
+use Rattle.cng.specs.Noise.{}
 use Rattle.cng.proofs.Kept.{comfort-rate}
 use Rattle.decode_core.specs.Core.{decodeCore}
 use Rattle.decode_frame.specs.WholeFrame.{lined, remembered, resumed, lagKept, finished, received, lost}

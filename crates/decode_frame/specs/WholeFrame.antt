@@ -1,12 +1,15 @@
 -- Document 01, "A whole frame": the order of work of silk_decode_frame (decode_frame.rs).
 use Prim.Native.Nat.{ℕ, _-_}
+use mathlib.Core.Bool.{Bool, cond}
 use mathlib.Core.List.{List, _++_}
 use lib.IntN.{ℤ, pos}
-use lib.ListN.{getD, take, drop}
+use lib.ListN.{getD, take, drop, replicate}
 use Rattle.sigproc.specs.Place.{updateOutBuf}
 use Rattle.shape.specs.Shape.{Shape, frameLength, memLength, lpcOrder}
 use Rattle.decoder.specs.Signals.{signalNumber}
-use Rattle.decoder.specs.Outcome.{Outcome, Framed, build}
+use Rattle.decoder.specs.Settings.{squelched}
+use Rattle.decoder.specs.With.{withLines, withOutBuf, withFirst, withLosses, withType, withLag}
+use Rattle.decoder.specs.Outcome.{Outcome}
 use Rattle.decoder.specs.declared.SilkDecoderState.{SilkDecoderState}
 use Rattle.decoder.specs.declared.SilkDecoderControl.{SilkDecoderControl}
 use Rattle.decoder.specs.declared.Params.{Params}
@@ -20,45 +23,19 @@ use Rattle.glue.specs.Glue.{glueFrames}
 
 -- the frame's first order lines into prev_nlsf_q15
 unfoldable pub lined : Shape → SilkDecoderState → List ℤ → SilkDecoderState
-lined p s lines =
-    build s (s .«prev_gain_q16») (s .«exc_q14») (s .«s_lpc_q14_buf») (s .«out_buf») (s .«lag_prev»)
-    (take (lpcOrder p) lines ++ drop (lpcOrder p) (s .«prev_nlsf_q15»))
-    (s .«first_frame_after_reset»)
-    (s .«s_cng»)
-    (s .«loss_cnt»)
-    (s .«prev_signal_type»)
-    (s .«s_plc»)
+lined p s lines = withLines s (take (lpcOrder p) lines ++ drop (lpcOrder p) (s .«prev_nlsf_q15»))
 
 -- the history moved along by a frame
 unfoldable pub remembered : Shape → SilkDecoderState → List ℤ → SilkDecoderState
-remembered p s frame =
-    build s (s .«prev_gain_q16») (s .«exc_q14») (s .«s_lpc_q14_buf») (updateOutBuf (s .«out_buf») (memLength p) frame) (s .«lag_prev»)
-    (s .«prev_nlsf_q15»)
-    (s .«first_frame_after_reset»)
-    (s .«s_cng»)
-    (s .«loss_cnt»)
-    (s .«prev_signal_type»)
-    (s .«s_plc»)
+remembered p s frame = withOutBuf s (updateOutBuf (s .«out_buf») (memLength p) frame)
 
 -- after a received frame: no loss, its type, no first frame
 unfoldable pub resumed : SilkDecoderState → ℤ → SilkDecoderState
-resumed s type =
-    build s (s .«prev_gain_q16») (s .«exc_q14») (s .«s_lpc_q14_buf») (s .«out_buf») (s .«lag_prev») (s .«prev_nlsf_q15») (pos 0)
-    (s .«s_cng»)
-    (pos 0)
-    type
-    (s .«s_plc»)
+resumed s type = withFirst (withLosses (withType s type) (pos 0)) (pos 0)
 
 -- lag_prev from the description's last subframe
 unfoldable pub lagKept : Shape → SilkDecoderState → SilkDecoderControl → SilkDecoderState
-lagKept p s c =
-    build s (s .«prev_gain_q16») (s .«exc_q14») (s .«s_lpc_q14_buf») (s .«out_buf») (getD (c .«pitch_l») (p .subframes - 1) (pos 0))
-    (s .«prev_nlsf_q15»)
-    (s .«first_frame_after_reset»)
-    (s .«s_cng»)
-    (s .«loss_cnt»)
-    (s .«prev_signal_type»)
-    (s .«s_plc»)
+lagKept p s c = withLag s (getD (c .«pitch_l») (p .subframes - 1) (pos 0))
 
 -- noise, then gluing, then lag_prev
 unfoldable pub finished : Shape → Outcome → Outcome
@@ -80,6 +57,11 @@ lost p s c =
     let o = plcConceal p s c in
     finished p (record { state = remembered p (o .state) (o .samples); control = o .control; samples = o .samples })
 
+-- a frame that plays zeros where it is squelched (document 02, Note 3): all else is as it is
+unfoldable pub muted : Shape → Bool → Outcome → Outcome
+muted p b o =
+    record { state = o .state; control = o .control; samples = cond b (replicate (frameLength p) (pos 0)) (o .samples) }
+
 unfoldable pub wholeFrame : Shape → SilkDecoderState → Frame → SilkDecoderControl → List (List ℤ) → List ℤ → List ℤ → Outcome
 wholeFrame p s (Received q) c rows lines pulses = received p s q c rows lines pulses
-wholeFrame p s Lost c rows lines pulses = lost p s c
+wholeFrame p s Lost c rows lines pulses = muted p (squelched s) (lost p s c)

@@ -2,44 +2,41 @@
 use decode_core::Carried;
 use decode_core::decode_core;
 use decode_core::setting_of;
+use decoder::Answer;
 use decoder::Frame;
 use decoder::Params;
 use decoder::SilkDecoderControl;
 use decoder::SilkDecoderState;
 use decoder::reshaped;
+use decoder::squelched;
 use glue::leave_energy;
 use glue::receive;
 use plc::conceal::plc_conceal;
 use plc::update::type_number;
-use refusal::Refusal;
 use shape::Rate;
 use sigproc::update_out_buf;
 use sigproc::with_front;
 ghost use mathlib.Core.Path.{_≡_};
-ghost use mathlib.Core.Bool.{true, false};
+ghost use mathlib.Core.Bool.{true, false, cond};
 ghost use mathlib.Core.List.{[]};
 ghost use Prim.Native.Nat.{_≤_};
 ghost use lib.IntN.{pos, natAbs};
-ghost use lib.ListN.{length};
+ghost use lib.ListN.{length, replicate};
 ghost use Rattle.word.specs.Int.{eqℤ};
 ghost use Rattle.shape.specs.Shape.{isRate, isCount, rateOf, countOf, frameLength};
 ghost use Rattle.decoder.specs.State.{shapeOf};
+ghost use Rattle.decoder.specs.Settings.{squelched};
 ghost use Rattle.decoder.specs.Ranges.{cngFits};
 ghost use Rattle.decoder.specs.Accepted.{Accepted};
 ghost use Rattle.decoder.specs.declared.Frame.the-variants.{Received, Lost};
 ghost use Rattle.decode_core.specs.Core.{settingOf};
 ghost use Rattle.decode_core.specs.Ready.{Framed};
-ghost use Rattle.decode_frame.specs.WholeFrame.{remembered, finished, received, lost};
+ghost use Rattle.decode_frame.specs.WholeFrame.{remembered, finished, received, lost, muted};
 ghost use Rattle.decode_frame.specs.Call.{frameCall};
 ghost use Rattle.decode_frame.specs.Answer.{frameAnswer, frameOutput};
+ghost use Rattle.decode_frame.specs.Squelch.{StateAsBefore, SamplesAsBefore, LostAsBefore, PlaysZeros};
+ghost use Rattle.decode_frame.specs.Editions.{ReceivedAlike};
 ghost use Rattle.decode_frame.specs.Standard.{FrameStandard};
-
-// Why a frame is turned down, or the new state and description.
-pub struct FrameAnswer {
-    pub refusal: Refusal,
-    pub state: SilkDecoderState,
-    pub control: SilkDecoderControl,
-}
 
 // The state and the description after a frame.
 struct Played {
@@ -66,9 +63,11 @@ fn finished(s: SilkDecoderState, c: SilkDecoderControl, xq: &mut [i16]) -> SilkD
     let plc = s.s_plc;
     let noise = s.s_cng;
     let lags = c.pitch_l;
+    let settings = s.settings;
     let s_cng = cng::lost(
         noise,
         s.fs_khz,
+        settings.edition,
         plc.rand_scale_q14,
         plc.prev_gain_q16[1],
         xq,
@@ -81,15 +80,28 @@ fn finished(s: SilkDecoderState, c: SilkDecoderControl, xq: &mut [i16]) -> SilkD
     t
 }
 
+// Zeros for all samples, where b holds.
+fn mute(b: bool, xq: &mut [i16])
+    ensures { λ _. ⌜ now (xq .exit) ≡ cond b (replicate (length (now (xq .entry))) (pos 0)) (now (xq .entry)) ⌝ }
+{
+    if !b {
+        return;
+    }
+    for i in 0..xq.len() {
+        xq[i] = 0;
+    }
+}
+
 fn lost(s: SilkDecoderState, c: SilkDecoderControl, xq: &mut [i16]) -> Played
     requires { ⌜ Accepted (rateOf (s .«fs_khz»)) s × (eqℤ (s .«loss_cnt») (pos 2147483647) ≡ false) × (length (now xq) ≡ frameLength (shapeOf s)) ⌝ }
-    ensures { λ r. ⌜ record { state = r .state; control = r .control; samples = now (xq .exit) } ≡ lost (shapeOf s) s c ⌝ }
+    ensures { λ r. ⌜ record { state = r .state; control = r .control; samples = now (xq .exit) } ≡ muted (shapeOf s) (squelched s) (lost (shapeOf s) s c) ⌝ }
 {
     let o = plc_conceal(s, c, xq);
     let concealed = o.state;
     let control = o.control;
     let t = remembered(concealed, xq);
     let u = finished(t, control, xq);
+    mute(squelched(s), xq);
     Played { state: u, control }
 }
 
@@ -142,6 +154,7 @@ fn received(
     let noise = s.s_cng;
     let s_cng = cng::received(noise, &exc, nlsf, &gains, khz, nb, kind);
     let s_plc = receive(updated, xq);
+    let settings = s.settings;
     let state = SilkDecoderState {
         prev_gain_q16: r.gain,
         exc_q14: exc,
@@ -160,6 +173,7 @@ fn received(
         loss_cnt: 0,
         prev_signal_type: kind,
         s_plc,
+        settings,
     };
     Played { state, control }
 }
@@ -175,13 +189,13 @@ pub fn received_frame(
     lines: [i16; 16],
     pulses: &[i16],
     xq: &mut [i16],
-) -> FrameAnswer
+) -> Answer
     ensures { λ r. ⌜ (r ≡ frameAnswer s (frameCall khz «nb_subfr» (Received q) c rows lines (now (pulses .entry)) (now (xq .entry))))
         × (now (xq .exit) ≡ frameOutput s (frameCall khz «nb_subfr» (Received q) c rows lines (now (pulses .entry)) (now (xq .entry)))) ⌝ }
 {
     let refusal = judge::received(s, khz, nb_subfr, q, c, lines, pulses.len(), xq.len());
     if refusal::number(refusal) != 0 {
-        return FrameAnswer {
+        return Answer {
             refusal,
             state: s,
             control: c,
@@ -192,7 +206,7 @@ pub fn received_frame(
     let o = received(t, q, c, rows, lines, pulses, &mut xq[..n]);
     let state = o.state;
     let control = o.control;
-    FrameAnswer {
+    Answer {
         refusal,
         state,
         control,
@@ -206,12 +220,12 @@ pub fn lost_frame(
     nb_subfr: i32,
     c: SilkDecoderControl,
     xq: &mut [i16],
-) -> FrameAnswer
+) -> Answer
     ensures { λ r. ⌜ (r ≡ frameAnswer s (frameCall khz «nb_subfr» Lost c [] [] [] (now (xq .entry)))) × (now (xq .exit) ≡ frameOutput s (frameCall khz «nb_subfr» Lost c [] [] [] (now (xq .entry)))) ⌝ }
 {
     let refusal = judge::lost(s, khz, nb_subfr, xq.len());
     if refusal::number(refusal) != 0 {
-        return FrameAnswer {
+        return Answer {
             refusal,
             state: s,
             control: c,
@@ -222,7 +236,7 @@ pub fn lost_frame(
     let o = lost(t, c, &mut xq[..n]);
     let state = o.state;
     let control = o.control;
-    FrameAnswer {
+    Answer {
         refusal,
         state,
         control,
@@ -239,7 +253,7 @@ pub fn silk_decode_frame(
     lines: [i16; 16],
     pulses: &[i16],
     xq: &mut [i16],
-) -> FrameAnswer
+) -> Answer
     ensures { λ r. ⌜ (r ≡ frameAnswer s (frameCall khz «nb_subfr» f c rows lines (now (pulses .entry)) (now (xq .entry))))
         × (now (xq .exit) ≡ frameOutput s (frameCall khz «nb_subfr» f c rows lines (now (pulses .entry)) (now (xq .entry)))) ⌝ }
 {
@@ -252,4 +266,14 @@ pub fn silk_decode_frame(
 // The excitation that a received frame leaves in the state is 64 times RFC 6716's. The claim has no code: it is a contract.
 pub fn frame_excitation()
     ensures { λ _. ⌜ FrameStandard ⌝ }
+{}
+
+// A squelch puts zeros in place of a lost frame's samples and changes nothing else. The claim has no code: it is a contract.
+pub fn squelch_silences()
+    ensures { λ _. ⌜ StateAsBefore × SamplesAsBefore × LostAsBefore × PlaysZeros ⌝ }
+{}
+
+// A received frame is the same under both editions. The claim has no code: it is a contract.
+pub fn received_alike()
+    ensures { λ _. ⌜ ReceivedAlike ⌝ }
 {}

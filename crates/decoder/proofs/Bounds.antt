@@ -14,17 +14,14 @@ use Rattle.word.specs.Int.{eqℤ}
 use Rattle.word.proofs.Order.{eqℤ-true, eqℤ-refl}
 use Rattle.word.proofs.Parts.{P, N}
 use Rattle.word.proofs.Rows.{both}
-use Rattle.refusal.specs.First.{firstOf}
-use Rattle.refusal.specs.Refusals.{refusalNumber}
-use Rattle.refusal.proofs.Clear.{Clear, clear, passed}
-use Rattle.refusal.specs.declared.Refusal.the-variants.{Nothing}
+use Rattle.refusal.proofs.Clear.{Clear}
 use Rattle.shape.specs.Shape.{isRate, isCount, rateOf, countOf, orderOf, subfrLength, frameLength, memLength, lpcOrder}
 use Rattle.shape.proofs.Shapes.{Shaped, Counts, two, four, shaped, either, rate-kept, count-kept}
 use Rattle.decoder.specs.State.{shapeOf}
 use Rattle.decoder.specs.Ranges.{within, allWithin, onlyIf, isLag, linesFit, decoderFits, tapsHeld, subframesHeld, plcHeld, plcFits, cngFits}
+use Rattle.decoder.specs.Settings.{settingsFit}
 use Rattle.decoder.specs.Rows.{rateRow, sizeRow, historyRow, stateRows}
 use Rattle.decoder.specs.Accepted.{Accepted}
-use Rattle.decoder.specs.Outcome.{build}
 use Rattle.decoder.specs.declared.SilkCNGState.{SilkCNGState}
 use Rattle.decoder.specs.declared.SilkPLCState.{SilkPLCState}
 use Rattle.decoder.specs.declared.SilkDecoderState.{SilkDecoderState}
@@ -299,39 +296,25 @@ pub record Bounds (r : ℕ) (s : SilkDecoderState) : Type 0 where
   pub decoder : DecoderBounds r s
   pub plc : PlcBounds r (s .«s_plc»)
   pub cng : CngBounds r (s .«s_cng»)
+  pub settings : settingsFit (s .settings) ≡ true
 
 pub bounds : (r : ℕ) (s : SilkDecoderState) → Accepted r s → Bounds r s
 unfolding historyRow
 bounds r s a =
-    let t = passes (decoderFits r s && plcFits r (s .«s_plc») && cngFits r (s .«s_cng»)) (a .history) in
-    let h = holds (decoderFits r s) (plcFits r (s .«s_plc») ∷ cngFits r (s .«s_cng») ∷ []) t in
+    let t = passes (decoderFits r s && plcFits r (s .«s_plc») && cngFits r (s .«s_cng») && settingsFit (s .settings)) (a .history) in
+    let h = holds (decoderFits r s) (plcFits r (s .«s_plc») ∷ cngFits r (s .«s_cng») ∷ settingsFit (s .settings) ∷ []) t in
     record {
       sizes = size-bounds s (a .rate) (a .size);
       decoder = decoder-bounds r s (h .0);
       plc = plc-bounds r _ (h .1 .0);
       cng = cng-bounds r _ (h .1 .1 .0);
+      settings = h .1 .1 .1 .0;
     }
 
-pub history-fits : (r : ℕ) (s : SilkDecoderState) → DecoderBounds r s → PlcBounds r (s .«s_plc») → CngBounds r (s .«s_cng») → historyRow r s ≡ false
+pub history-fits : (r : ℕ) (s : SilkDecoderState) → DecoderBounds r s → PlcBounds r (s .«s_plc») → CngBounds r (s .«s_cng») → settingsFit (s .settings) ≡ true → historyRow r s ≡ false
 unfolding historyRow
-history-fits r s d p c = rw (decoder-fits r s d, plc-fits r _ p, cng-fits r _ c)
+history-fits r s d p c v = rw (decoder-fits r s d, plc-fits r _ p, cng-fits r _ c, v)
 
 -- none of rows 1 to 3 applies
 pub state-clear : (s : SilkDecoderState) → Clear (stateRows s) → Accepted (rateOf (s .«fs_khz»)) s
 state-clear s h = record { rate = h .0; size = h .1 .0; history = h .1 .1 .0 }
-
-pub clear-state : (s : SilkDecoderState) → Accepted (rateOf (s .«fs_khz»)) s → Clear (stateRows s)
-clear-state s a = (a .rate, (a .size, (a .history, tt)))
-
--- rows 1 to 3 refuse nothing exactly where a state is accepted
-pub state-decides : (s : SilkDecoderState) → refusalNumber (firstOf (stateRows s)) ≡ 0 → Accepted (rateOf (s .«fs_khz»)) s
-state-decides s e = state-clear s (clear (stateRows s) Nothing refl e .0)
-
-pub state-passes : (s : SilkDecoderState) → Accepted (rateOf (s .«fs_khz»)) s → firstOf (stateRows s) ≡ Nothing
-state-passes s a = passed (stateRows s) Nothing (clear-state s a)
-
--- the stages keep the sizes, so a state that they build is accepted by its other bounds
-pub built : (r : ℕ) (s : SilkDecoderState) (gain : ℤ) (exc lpc buf : List ℤ) (lag : ℤ) (nlsf : List ℤ) (first : ℤ) (cng : SilkCNGState) (loss type : ℤ) (plc : SilkPLCState) → Accepted r s → DecoderBounds r (build s gain exc lpc buf lag nlsf first cng loss type plc) → PlcBounds r plc → CngBounds r cng → Accepted r (build s gain exc lpc buf lag nlsf first cng loss type plc)
-unfolding sizeRow
-built r s gain exc lpc buf lag nlsf first cng loss type plc a d p c =
-    record { rate = a .rate; size = a .size; history = history-fits r _ d p c }

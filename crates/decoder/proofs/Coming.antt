@@ -19,44 +19,22 @@ use Rattle.refusal.proofs.Clear.{Clear}
 use Rattle.shape.specs.Shape.{isRate, isCount, rateOf}
 use Rattle.shape.proofs.Shapes.{rates, rate-range, order-le}
 use Rattle.decoder.specs.Ranges.{decoderFits}
+use Rattle.decoder.specs.With.{withSizes}
 use Rattle.decoder.specs.Reshape.{reshapedBy, reshaped}
 use Rattle.decoder.specs.Rows.{rateRow, sizeRow, historyRow, stateRows, comingRows}
-use Rattle.decoder.specs.SetUp.{cngDefault, plcDefault, stateFrom}
+use Rattle.decoder.specs.SetUp.{cngDefault, plcDefault, silkDefault, stateFrom}
 use Rattle.decoder.specs.Accepted.{Accepted}
 use Rattle.decoder.specs.Typed.{Words, Typed}
 use Rattle.decoder.specs.Claims.{SameShape}
 use Rattle.decoder.specs.declared.SilkCNGState.{SilkCNGState}
 use Rattle.decoder.specs.declared.SilkPLCState.{SilkPLCState}
+use Rattle.decoder.specs.declared.Settings.{Settings}
 use Rattle.decoder.specs.declared.SilkDecoderState.{SilkDecoderState}
 use Rattle.decoder.proofs.Between.{either, passes, AllBetween}
 use Rattle.decoder.proofs.Bounds.{size-bounds, size-fits, DecoderBounds, PlcHeldBounds, PlcBounds, CngHeldBounds, CngBounds, bounds, history-fits}
-use Rattle.decoder.proofs.Built.{in-range}
-use Rattle.decoder.proofs.Tests.{small-rate, small-frame, small-order}
+use Rattle.decoder.proofs.Built.{in-range, typed-out-buf, typed-memory, typed-lag, typed-type, typed-first}
 use Rattle.decoder.proofs.Types.{zeros-words}
-use Rattle.decoder.proofs.SetUps.{fresh, zeros-between, no-rate-0, small-fits, rate-fits, count-fits}
-
--- a state with all that a coming shape may change in it
-abbrev pub shaped : SilkDecoderState → List ℤ → List ℤ → ℤ → ℤ → ℤ → ℤ → ℤ → ℤ → ℤ → ℤ → ℤ → SilkDecoderState
-shaped s lpc buf lag khz nb frame subfr mem order first type =
-    record {
-      «prev_gain_q16» = s .«prev_gain_q16»;
-      «exc_q14» = s .«exc_q14»;
-      «s_lpc_q14_buf» = lpc;
-      «out_buf» = buf;
-      «lag_prev» = lag;
-      «fs_khz» = khz;
-      «nb_subfr» = nb;
-      «frame_length» = frame;
-      «subfr_length» = subfr;
-      «ltp_mem_length» = mem;
-      «lpc_order» = order;
-      «prev_nlsf_q15» = s .«prev_nlsf_q15»;
-      «first_frame_after_reset» = first;
-      «s_cng» = s .«s_cng»;
-      «loss_cnt» = s .«loss_cnt»;
-      «prev_signal_type» = type;
-      «s_plc» = s .«s_plc»;
-    }
+use Rattle.decoder.proofs.SetUps.{zeros-between, no-rate-0, small-fits, typed-shape}
 
 -- ---- the shape that a state holds
 pub same-shape : SameShape
@@ -65,12 +43,8 @@ same-shape s e f =
     let b = size-bounds s e f in
     rw (eqℤ-refl (s .«fs_khz»))
     (λ i.
-    shaped s (s .«s_lpc_q14_buf») (s .«out_buf») (s .«lag_prev») (s .«fs_khz») (s .«nb_subfr») (sym (b .«frame_length») i)
-    (sym (b .«subfr_length») i)
-    (sym (b .«ltp_mem_length») i)
-    (sym (b .«lpc_order») i)
-    (s .«first_frame_after_reset»)
-    (s .«prev_signal_type»))
+    withSizes s (s .«fs_khz») (s .«nb_subfr») (sym (b .«frame_length») i) (sym (b .«subfr_length») i) (sym (b .«ltp_mem_length») i)
+    (sym (b .«lpc_order») i))
 
 -- the rate that a state holds leaves what row 3 judges
 held-history : (nb : ℤ) (s : SilkDecoderState) → historyRow (rateOf (s .«fs_khz»)) (reshaped (s .«fs_khz») nb s) ≡ historyRow (rateOf (s .«fs_khz»)) s
@@ -112,25 +86,11 @@ module _ (khz nb : ℤ) (s : SilkDecoderState) where
   unfolding reshaped reshapedBy
   coming-typed e f t =
       let b = eqℤ khz (s .«fs_khz») in
-      record {
-        «prev_gain_q16» = t .«prev_gain_q16»;
-        «exc_q14» = t .«exc_q14»;
-        «s_lpc_q14_buf» = either (Words w32 16) b (t .«s_lpc_q14_buf») (zeros-words 16);
-        «out_buf» = either (Words w16 480) b (t .«out_buf») (zeros-words 480);
-        «lag_prev» = either (SFits w32) b (t .«lag_prev») (small-fits 100 (lit< tt));
-        «fs_khz» = rate-fits khz e;
-        «nb_subfr» = count-fits nb f;
-        «frame_length» = small-fits _ (small-frame khz nb);
-        «subfr_length» = small-fits _ (small-rate 5 khz (lit≤ tt));
-        «ltp_mem_length» = small-fits _ (small-rate 20 khz (lit≤ tt));
-        «lpc_order» = small-fits _ (small-order (rateOf khz));
-        «prev_nlsf_q15» = t .«prev_nlsf_q15»;
-        «first_frame_after_reset» = either (SFits w32) b (t .«first_frame_after_reset») (small-fits 1 (lit< tt));
-        «s_cng» = t .«s_cng»;
-        «loss_cnt» = t .«loss_cnt»;
-        «prev_signal_type» = either (SFits w32) b (t .«prev_signal_type») (small-fits 0 (lit< tt));
-        «s_plc» = t .«s_plc»;
-      }
+      let o = typed-out-buf (typed-shape khz nb e f t) (either (Words w16 480) b (t .«out_buf») (zeros-words 480)) in
+      let m = typed-memory o (either (Words w32 16) b (t .«s_lpc_q14_buf») (zeros-words 16)) in
+      let l = typed-lag m (either (SFits w32) b (t .«lag_prev») (small-fits 100 (lit< tt))) in
+      let k = typed-type l (either (SFits w32) b (t .«prev_signal_type») (small-fits 0 (lit< tt))) in
+      typed-first k (either (SFits w32) b (t .«first_frame_after_reset») (small-fits 1 (lit< tt)))
 
 -- ---- a state that every coming shape leaves accepted
 -- concealment or noise holds its numbers for no rate, or for that of the state
@@ -143,9 +103,9 @@ pub record Own (s : SilkDecoderState) : Type 0 where
   pub plc : OwnRate (s .«fs_khz») (s .«s_plc» .«fs_khz»)
   pub cng : OwnRate (s .«fs_khz») (s .«s_cng» .«fs_khz»)
 
-pub fresh-own : (khz nb : ℤ) → Own (fresh khz nb)
-unfolding stateFrom plcDefault cngDefault
-fresh-own khz nb = record { lines = zeros-between 32767 16 16; plc = inl refl; cng = inl refl }
+pub fresh-own : (khz nb : ℤ) (v : Settings) → Own (stateFrom khz nb v)
+unfolding stateFrom silkDefault plcDefault cngDefault
+fresh-own khz nb v = record { lines = zeros-between 32767 16 16; plc = inl refl; cng = inl refl }
 
 -- numbers held for the rate of the state or for none are held for a coming one only if it is the same
 module _ (khz : ℤ) (e : isRate khz ≡ true) (held : ℤ) (r : ℕ) (is : held ≡ pos r) where
@@ -202,3 +162,4 @@ any-shape khz nb s a o e =
     history-fits (rateOf khz) (reshaped khz nb s) (decoder-any khz nb s (eqℤ khz (s .«fs_khz»)) refl e (o .lines) (b .decoder))
     (plc-any khz e (s .«fs_khz») (rateOf (s .«fs_khz»)) (b .sizes .«fs_khz») (s .«s_plc») (o .plc) (b .plc))
     (cng-any khz e (s .«fs_khz») (rateOf (s .«fs_khz»)) (b .sizes .«fs_khz») (s .«s_cng») (o .cng) (b .cng))
+    (b .settings)

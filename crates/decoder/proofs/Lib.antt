@@ -7,3 +7,4 @@ pub mod Types
 pub mod SetUps
 pub mod Built
 pub mod Coming
+pub mod Answers

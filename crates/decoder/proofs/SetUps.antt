@@ -9,31 +9,35 @@ use lib.IntN.{ℤ, pos, natAbs}
 use lib.ListN.{getD, replicate}
 use mir.Syntax.{w16, w32}
 use mir.Val.{SFits}
+use Rattle.word.proofs.Rows.{both}
+use Rattle.edition.specs.Edition.{isEdition}
+use Rattle.edition.proofs.Editions.{edition-fits}
 use Rattle.refusal.specs.First.{firstOr}
 use Rattle.refusal.specs.declared.Refusal.the-variants.{Nothing}
-use Rattle.shape.specs.Shape.{shape, isRate, isCount, rateOf, orderOf}
+use Rattle.shape.specs.Shape.{isRate, isCount, rateOf, orderOf}
 use Rattle.shape.proofs.Shapes.{rates, rate-range, rate-kept, count-kept, count-le}
-use Rattle.decoder.specs.SetUp.{cngDefault, plcDefault, stateFrom, setUpRefusal, setUp}
-use Rattle.decoder.specs.Typed.{Typed, TypedCng, TypedPlc}
+use Rattle.decoder.specs.Settings.{isSquelch, settingsFit, defaultSettings}
+use Rattle.decoder.specs.With.{withShape}
+use Rattle.decoder.specs.SetUp.{cngDefault, plcDefault, silkDefault, stateFrom, setUpRefusal, setUpWith}
+use Rattle.decoder.specs.Typed.{Typed, TypedCng, TypedPlc, TypedSettings}
 use Rattle.decoder.specs.Accepted.{Accepted}
+use Rattle.decoder.specs.declared.Settings.{Settings}
 use Rattle.decoder.specs.declared.SilkDecoderState.{SilkDecoderState}
-use Rattle.decoder.proofs.Between.{AllBetween}
+use Rattle.decoder.proofs.Between.{between, AllBetween}
 use Rattle.decoder.proofs.Bounds.{size-fits, history-fits}
-use Rattle.decoder.proofs.Built.{in-range}
+use Rattle.decoder.proofs.Built.{in-range, between-32, typed-settings, typed-sizes}
 use Rattle.decoder.proofs.Tests.{small, small-rate, small-frame, small-order}
 use Rattle.decoder.proofs.Types.{zero-fits, zeros-words}
 
--- the state that set-up gives for a rate and a count
-abbrev pub fresh : ℤ → ℤ → SilkDecoderState
-fresh khz nb = stateFrom khz nb (shape khz nb)
+pub set-up-accepts : (khz nb : ℤ) (v : Settings) → isRate khz ≡ true → isCount nb ≡ true → settingsFit v ≡ true → setUpRefusal khz nb v ≡ Nothing
+unfolding setUpRefusal firstOr settingsFit
+set-up-accepts khz nb v e f g =
+    let h = both (isSquelch (v .squelch)) (isEdition (v .edition)) g in
+    rw (e, f, h .0, h .1)
 
-pub set-up-accepts : (khz nb : ℤ) → isRate khz ≡ true → isCount nb ≡ true → setUpRefusal khz nb ≡ Nothing
-unfolding setUpRefusal firstOr
-set-up-accepts khz nb e f = rw (e, f)
-
-pub set-up-state : (khz nb : ℤ) → isRate khz ≡ true → isCount nb ≡ true → setUp khz nb .state ≡ fresh khz nb
-unfolding setUp
-set-up-state khz nb e f = rw (set-up-accepts khz nb e f)
+pub set-up-state : (khz nb : ℤ) (v : Settings) → isRate khz ≡ true → isCount nb ≡ true → settingsFit v ≡ true → setUpWith khz nb v .state ≡ stateFrom khz nb v
+unfolding setUpWith
+set-up-state khz nb v e f g = rw (set-up-accepts khz nb v e f g)
 
 -- ---- accepted
 pub zero-at : (n i : ℕ) → getD (replicate n (pos 0)) i (pos 0) ≡ pos 0
@@ -51,13 +55,13 @@ no-rate-0 khz e z =
     let k : natAbs (pos 0) ≡ natAbs (pos (rateOf khz)) = ap natAbs z in
     omega arith
 
-pub fresh-accepted : (khz nb : ℤ) → isRate khz ≡ true → isCount nb ≡ true → Accepted (rateOf khz) (fresh khz nb)
-unfolding stateFrom cngDefault plcDefault
-fresh-accepted khz nb e f =
+pub fresh-accepted : (khz nb : ℤ) (v : Settings) → isRate khz ≡ true → isCount nb ≡ true → settingsFit v ≡ true → Accepted (rateOf khz) (stateFrom khz nb v)
+unfolding stateFrom silkDefault cngDefault plcDefault
+fresh-accepted khz nb v e f g =
     record {
       rate = ap not e;
-      size = size-fits (fresh khz nb) f refl refl refl refl;
-      history = history-fits (rateOf khz) (fresh khz nb)
+      size = size-fits (stateFrom khz nb v) f refl refl refl refl;
+      history = history-fits (rateOf khz) (stateFrom khz nb v)
           (record {
             «loss_cnt» = refl;
             «lag_prev» = λ l. absurd (not-suc-le-zero l);
@@ -75,7 +79,8 @@ fresh-accepted khz nb e f =
             «conc_energy_shift» = in-range 0 31 0 (lit≤ tt) (lit≤ tt);
             held = λ z. absurd (no-rate-0 khz e z);
           })
-          (λ z. absurd (no-rate-0 khz e z));
+          (λ z. absurd (no-rate-0 khz e z))
+          g;
     }
 
 -- ---- typed
@@ -114,27 +119,28 @@ plc-typed =
 pub small-fits : (n : ℕ) → n < 2147483648 → SFits w32 (pos n)
 small-fits n h = record { sfits = h }
 
-pub fresh-typed : (khz nb : ℤ) → SFits w32 khz → SFits w32 nb → Typed (fresh khz nb)
-unfolding stateFrom
-fresh-typed khz nb e f =
+default-typed : Typed silkDefault
+unfolding silkDefault defaultSettings
+default-typed =
     record {
       «prev_gain_q16» = small-fits 65536 (lit< tt);
       «exc_q14» = zeros-words 320;
       «s_lpc_q14_buf» = zeros-words 16;
       «out_buf» = zeros-words 480;
       «lag_prev» = small-fits 100 (lit< tt);
-      «fs_khz» = e;
-      «nb_subfr» = f;
-      «frame_length» = small-fits _ (small-frame khz nb);
-      «subfr_length» = small-fits _ (small-rate 5 khz (lit≤ tt));
-      «ltp_mem_length» = small-fits _ (small-rate 20 khz (lit≤ tt));
-      «lpc_order» = small-fits _ (small-order (rateOf khz));
+      «fs_khz» = zero-fits w32;
+      «nb_subfr» = zero-fits w32;
+      «frame_length» = zero-fits w32;
+      «subfr_length» = zero-fits w32;
+      «ltp_mem_length» = zero-fits w32;
+      «lpc_order» = zero-fits w32;
       «prev_nlsf_q15» = zeros-words 16;
       «first_frame_after_reset» = small-fits 1 (lit< tt);
       «s_cng» = cng-typed;
       «loss_cnt» = zero-fits w32;
       «prev_signal_type» = zero-fits w32;
       «s_plc» = plc-typed;
+      settings = record { squelch = zero-fits w32; edition = small-fits 8251 (lit< tt) };
     }
 
 -- ---- at a rate and a count
@@ -144,8 +150,24 @@ rate-fits khz e = rw (rate-kept khz e) (small-fits _ (small khz))
 pub count-fits : (nb : ℤ) → isCount nb ≡ true → SFits w32 nb
 count-fits nb e = rw (count-kept nb e) (small-fits _ (omega (arith, count-le nb)))
 
-pub set-up-accepted : (khz nb : ℤ) → isRate khz ≡ true → isCount nb ≡ true → Accepted (rateOf khz) (setUp khz nb .state)
-set-up-accepted khz nb e f = rw (set-up-state khz nb e f) (fresh-accepted khz nb e f)
+-- a state with that shape
+pub typed-shape : {s : SilkDecoderState} (khz nb : ℤ) → isRate khz ≡ true → isCount nb ≡ true → Typed s → Typed (withShape s khz nb)
+typed-shape khz nb e f t =
+    typed-sizes t (rate-fits khz e) (count-fits nb f) (small-fits _ (small-frame khz nb)) (small-fits _ (small-rate 5 khz (lit≤ tt))) (small-fits _ (small-rate 20 khz (lit≤ tt)))
+    (small-fits _ (small-order (rateOf khz)))
 
-pub set-up-typed : (khz nb : ℤ) → isRate khz ≡ true → isCount nb ≡ true → Typed (setUp khz nb .state)
-set-up-typed khz nb e f = rw (set-up-state khz nb e f) (fresh-typed khz nb (rate-fits khz e) (count-fits nb f))
+pub settings-typed : (v : Settings) → settingsFit v ≡ true → TypedSettings v
+unfolding settingsFit isSquelch
+settings-typed v g =
+    let h = both (isSquelch (v .squelch)) (isEdition (v .edition)) g in
+    record { squelch = between-32 (between 0 10000 (v .squelch) (h .0)) (lit< tt); edition = edition-fits (v .edition) (h .1) }
+
+pub set-up-accepted : (khz nb : ℤ) (v : Settings) → isRate khz ≡ true → isCount nb ≡ true → settingsFit v ≡ true → Accepted (rateOf khz) (setUpWith khz nb v .state)
+set-up-accepted khz nb v e f g = rw (set-up-state khz nb v e f g) (fresh-accepted khz nb v e f g)
+
+fresh-typed : (khz nb : ℤ) (v : Settings) → isRate khz ≡ true → isCount nb ≡ true → TypedSettings v → Typed (stateFrom khz nb v)
+unfolding stateFrom
+fresh-typed khz nb v e f g = typed-settings (typed-shape khz nb e f default-typed) g
+
+pub set-up-typed : (khz nb : ℤ) (v : Settings) → isRate khz ≡ true → isCount nb ≡ true → settingsFit v ≡ true → Typed (setUpWith khz nb v .state)
+set-up-typed khz nb v e f g = rw (set-up-state khz nb v e f g) (fresh-typed khz nb v e f (settings-typed v g))

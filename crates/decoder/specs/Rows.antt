@@ -9,6 +9,7 @@ use Rattle.refusal.specs.declared.Refusal.the-variants.{Rate, Size, History}
 use Rattle.shape.specs.Shape.{isRate, isCount, rateOf, subfrLength, frameLength, memLength, lpcOrder}
 use Rattle.decoder.specs.State.{shapeOf}
 use Rattle.decoder.specs.Ranges.{decoderFits, plcFits, cngFits}
+use Rattle.decoder.specs.Settings.{settingsFit}
 use Rattle.decoder.specs.Reshape.{reshaped}
 use Rattle.decoder.specs.declared.SilkDecoderState.{SilkDecoderState}
 
@@ -27,7 +28,8 @@ sizeRow s =
 
 -- a state field is outside its range at a rate r
 unfoldable pub historyRow : ℕ → SilkDecoderState → Bool
-historyRow r s = not (decoderFits r s && plcFits r (s .«s_plc») && cngFits r (s .«s_cng»))
+historyRow r s =
+    not (decoderFits r s && plcFits r (s .«s_plc») && cngFits r (s .«s_cng») && settingsFit (s .settings))
 
 -- rows 1 to 3 for a state, at the rate that it holds
 abbrev pub stateRows : SilkDecoderState → List Row

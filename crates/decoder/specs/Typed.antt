@@ -8,6 +8,7 @@ use mir.Syntax.{Width, w16, w32}
 use mir.Val.{SFits}
 use Rattle.decoder.specs.declared.SilkCNGState.{SilkCNGState}
 use Rattle.decoder.specs.declared.SilkPLCState.{SilkPLCState}
+use Rattle.decoder.specs.declared.Settings.{Settings}
 use Rattle.decoder.specs.declared.SilkDecoderState.{SilkDecoderState}
 use Rattle.decoder.specs.declared.SilkDecoderControl.{SilkDecoderControl}
 
@@ -39,6 +40,10 @@ pub record TypedPlc (h : SilkPLCState) : Type 0 where
   pub «nb_subfr» : SFits w32 (h .«nb_subfr»)
   pub «subfr_length» : SFits w32 (h .«subfr_length»)
 
+pub record TypedSettings (v : Settings) : Type 0 where
+  pub squelch : SFits w32 (v .squelch)
+  pub edition : SFits w32 (v .edition)
+
 pub record Typed (s : SilkDecoderState) : Type 0 where
   pub «prev_gain_q16» : SFits w32 (s .«prev_gain_q16»)
   pub «exc_q14» : Words w32 320 (s .«exc_q14»)
@@ -57,6 +62,7 @@ pub record Typed (s : SilkDecoderState) : Type 0 where
   pub «loss_cnt» : SFits w32 (s .«loss_cnt»)
   pub «prev_signal_type» : SFits w32 (s .«prev_signal_type»)
   pub «s_plc» : TypedPlc (s .«s_plc»)
+  pub settings : TypedSettings (s .settings)
 
 pub record TypedControl (c : SilkDecoderControl) : Type 0 where
   pub «pitch_l» : Words w32 4 (c .«pitch_l»)

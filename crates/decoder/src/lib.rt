@@ -1,8 +1,12 @@
 // The decoder's state and frame description (decoder_structs.rs, define.rs), set-up, and the played part of the output.
-// Inner: every function but set_up, played and same_shape.
+// Inner: every function but set_up, set_up_with, played and same_shape.
+use edition::NEWER;
+use edition::is_edition;
 use refusal::Refusal;
 use shape::Rate;
 use word::mul32;
+use word::sum64;
+use word::wide;
 use word::wide16;
 ghost use mathlib.Core.Path.{_≡_};
 ghost use mathlib.Core.Bool.{cond, _&&_, _||_};
@@ -13,9 +17,11 @@ ghost use Rattle.word.specs.Int.{eqℤ};
 ghost use Rattle.shape.specs.Shape.{rateOf, shape};
 ghost use Rattle.decoder.specs.Signals.{signalNumber, signalOf, isType, isVoiced};
 ghost use Rattle.decoder.specs.Ranges.{within, allWithin, onlyIf, isLag, linesFit, decoderFits, tapsHeld, subframesHeld, plcHeld, plcFits, cngFits};
+ghost use Rattle.decoder.specs.Settings.{isSquelch, settingsFit, defaultSettings, squelched};
+ghost use Rattle.decoder.specs.With.{withShape};
 ghost use Rattle.decoder.specs.Reshape.{reshaped};
 ghost use Rattle.decoder.specs.Rows.{rateRow, sizeRow, historyRow};
-ghost use Rattle.decoder.specs.SetUp.{cngDefault, plcDefault, stateFrom, setUpRefusal, setUp};
+ghost use Rattle.decoder.specs.SetUp.{cngDefault, plcDefault, silkDefault, stateFrom, setUpRefusal, setUpWith, setUp};
 ghost use Rattle.decoder.specs.Played.{playedLength};
 ghost use Rattle.decoder.specs.Claims.{SameShape};
 
@@ -46,6 +52,12 @@ pub struct SilkPLCState {
     pub subfr_length: i32,
 }
 
+// What set-up names and no frame changes.
+pub struct Settings {
+    pub squelch: i32,
+    pub edition: i32,
+}
+
 pub struct SilkDecoderState {
     pub prev_gain_q16: i32,
     pub exc_q14: [i32; 320],
@@ -64,6 +76,7 @@ pub struct SilkDecoderState {
     pub loss_cnt: i32,
     pub prev_signal_type: i32,
     pub s_plc: SilkPLCState,
+    pub settings: Settings,
 }
 
 // A frame's description: lags, gains, taps and LTP scale. Its two coefficient rows stand beside it.
@@ -95,10 +108,17 @@ pub enum Frame {
     Lost,
 }
 
-// The answer of set-up; refused, the default state with no shape.
-pub struct SetUp {
+// The answer of a call that gives a new state: refused, the one lent.
+pub struct StateAnswer {
     pub refusal: Refusal,
     pub state: SilkDecoderState,
+}
+
+// The answer of a call that gives a new state and a new description: refused, those lent.
+pub struct Answer {
+    pub refusal: Refusal,
+    pub state: SilkDecoderState,
+    pub control: SilkDecoderControl,
 }
 
 pub fn both(a: bool, b: bool) -> bool
@@ -255,6 +275,26 @@ fn decoder_fits(s: SilkDecoderState, khz: i32) -> bool
     both(ok, lines_fit(khz, &lines))
 }
 
+fn is_squelch(q: i32) -> bool
+    ensures { λ r. ⌜ r ≡ isSquelch q ⌝ }
+{
+    within(0, 10000, q)
+}
+
+fn settings_fit(v: Settings) -> bool
+    ensures { λ r. ⌜ r ≡ settingsFit v ⌝ }
+{
+    both(is_squelch(v.squelch), is_edition(v.edition))
+}
+
+// A loss now makes the count the squelch or more.
+pub fn squelched(s: SilkDecoderState) -> bool
+    ensures { λ r. ⌜ r ≡ squelched s ⌝ }
+{
+    let v = s.settings;
+    both(0 < v.squelch, wide(v.squelch) <= sum64(s.loss_cnt, 1))
+}
+
 // Row 1.
 pub fn rate_row(s: SilkDecoderState) -> bool
     ensures { λ r. ⌜ r ≡ rateRow s ⌝ }
@@ -284,9 +324,13 @@ pub fn history_row(s: SilkDecoderState, khz: i32) -> bool
 {
     let plc = s.s_plc;
     let cng = s.s_cng;
+    let settings = s.settings;
     !both(
-        both(decoder_fits(s, khz), plc_fits(khz, plc)),
-        cng_fits(khz, cng),
+        both(
+            both(decoder_fits(s, khz), plc_fits(khz, plc)),
+            cng_fits(khz, cng),
+        ),
+        settings_fit(settings),
     )
 }
 
@@ -400,20 +444,29 @@ fn length_number(n: usize) -> i32
     n as i32
 }
 
-// The state as a coming rate and count of subframes leave it.
-pub fn reshaped(s: SilkDecoderState, khz: i32, nb_subfr: i32) -> SilkDecoderState
-    ensures { λ r. ⌜ r ≡ reshaped khz «nb_subfr» s ⌝ }
+// A rate, a count of subframes, and the lengths and the order that follow from them.
+fn with_shape(s: SilkDecoderState, khz: i32, nb_subfr: i32) -> SilkDecoderState
+    ensures { λ r. ⌜ r ≡ withShape s khz «nb_subfr» ⌝ }
 {
     let frame_length = length_number(shape::frame_length(khz, nb_subfr));
     let subfr_length = length_number(Rate::subfr_length(khz));
     let ltp_mem_length = length_number(Rate::ltp_mem_length(khz));
     let lpc_order = length_number(Rate::lpc_order(khz));
     let mut t = s;
+    t.fs_khz = khz;
     t.nb_subfr = nb_subfr;
     t.frame_length = frame_length;
     t.subfr_length = subfr_length;
     t.ltp_mem_length = ltp_mem_length;
     t.lpc_order = lpc_order;
+    t
+}
+
+// The state as a coming rate and count of subframes leave it.
+pub fn reshaped(s: SilkDecoderState, khz: i32, nb_subfr: i32) -> SilkDecoderState
+    ensures { λ r. ⌜ r ≡ reshaped khz «nb_subfr» s ⌝ }
+{
+    let mut t = with_shape(s, khz, nb_subfr);
     if khz == s.fs_khz {
         return t;
     }
@@ -422,7 +475,6 @@ pub fn reshaped(s: SilkDecoderState, khz: i32, nb_subfr: i32) -> SilkDecoderStat
     t.s_lpc_q14_buf = memory;
     t.out_buf = out_buf;
     t.lag_prev = 100;
-    t.fs_khz = khz;
     t.first_frame_after_reset = 1;
     t.prev_signal_type = 0;
     t
@@ -433,58 +485,86 @@ pub fn same_shape()
     ensures { λ _. ⌜ SameShape ⌝ }
 {}
 
-// The default state at a rate and a count of subframes.
-fn state_from(khz: i32, nb_subfr: i32) -> SilkDecoderState
-    ensures { λ r. ⌜ r ≡ stateFrom khz «nb_subfr» (shape khz «nb_subfr») ⌝ }
+fn silk_default() -> SilkDecoderState
+    ensures { λ r. ⌜ r ≡ silkDefault ⌝ }
 {
     let exc = zeros320();
     let lpc = zeros16();
     let out = samples480();
     let nlsf = samples16();
-    let frame_length = length_number(shape::frame_length(khz, nb_subfr));
-    let subfr_length = length_number(Rate::subfr_length(khz));
-    let ltp_mem_length = length_number(Rate::ltp_mem_length(khz));
-    let lpc_order = length_number(Rate::lpc_order(khz));
     let cng = cng_default();
     let plc = plc_default();
+    let settings = default_settings();
     SilkDecoderState {
         prev_gain_q16: 65536,
         exc_q14: exc,
         s_lpc_q14_buf: lpc,
         out_buf: out,
         lag_prev: 100,
-        fs_khz: khz,
-        nb_subfr,
-        frame_length,
-        subfr_length,
-        ltp_mem_length,
-        lpc_order,
+        fs_khz: 0,
+        nb_subfr: 0,
+        frame_length: 0,
+        subfr_length: 0,
+        ltp_mem_length: 0,
+        lpc_order: 0,
         prev_nlsf_q15: nlsf,
         first_frame_after_reset: 1,
         s_cng: cng,
         loss_cnt: 0,
         prev_signal_type: 0,
         s_plc: plc,
+        settings,
     }
 }
 
-fn set_up_refusal(khz: i32, nb_subfr: i32) -> Refusal
-    ensures { λ r. ⌜ r ≡ setUpRefusal khz «nb_subfr» ⌝ }
+// The default state at a rate and a count of subframes, with settings.
+fn state_from(khz: i32, nb_subfr: i32, settings: Settings) -> SilkDecoderState
+    ensures { λ r. ⌜ r ≡ stateFrom khz «nb_subfr» settings ⌝ }
 {
-    let size = refusal::first(!shape::is_count(nb_subfr), Refusal::Size, Refusal::Nothing);
+    let mut t = with_shape(silk_default(), khz, nb_subfr);
+    t.settings = settings;
+    t
+}
+
+fn set_up_refusal(khz: i32, nb_subfr: i32, settings: Settings) -> Refusal
+    ensures { λ r. ⌜ r ≡ setUpRefusal khz «nb_subfr» settings ⌝ }
+{
+    let edition = refusal::first(
+        !is_edition(settings.edition),
+        Refusal::Edition,
+        Refusal::Nothing,
+    );
+    let squelch = refusal::first(!is_squelch(settings.squelch), Refusal::Squelch, edition);
+    let size = refusal::first(!shape::is_count(nb_subfr), Refusal::Size, squelch);
     refusal::first(!shape::is_rate(khz), Refusal::Rate, size)
 }
 
-pub fn set_up(fs_khz: i32, nb_subfr: i32) -> SetUp
+pub fn default_settings() -> Settings
+    ensures { λ r. ⌜ r ≡ defaultSettings ⌝ }
+{
+    Settings {
+        squelch: 0,
+        edition: NEWER,
+    }
+}
+
+pub fn set_up_with(fs_khz: i32, nb_subfr: i32, settings: Settings) -> StateAnswer
+    ensures { λ r. ⌜ r ≡ setUpWith «fs_khz» «nb_subfr» settings ⌝ }
+{
+    let refusal = set_up_refusal(fs_khz, nb_subfr, settings);
+    if refusal::number(refusal) != 0 {
+        let state = state_from(0, 0, default_settings());
+        return StateAnswer { refusal, state };
+    }
+    let state = state_from(fs_khz, nb_subfr, settings);
+    StateAnswer { refusal, state }
+}
+
+// Set-up with the default settings.
+pub fn set_up(fs_khz: i32, nb_subfr: i32) -> StateAnswer
     ensures { λ r. ⌜ r ≡ setUp «fs_khz» «nb_subfr» ⌝ }
 {
-    let refusal = set_up_refusal(fs_khz, nb_subfr);
-    if refusal::number(refusal) != 0 {
-        let state = state_from(0, 0);
-        return SetUp { refusal, state };
-    }
-    let state = state_from(fs_khz, nb_subfr);
-    SetUp { refusal, state }
+    set_up_with(fs_khz, nb_subfr, default_settings())
 }
 
 // The played samples of the output themselves; empty for a shape that is none or a short output.

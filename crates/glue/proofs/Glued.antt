@@ -21,7 +21,7 @@ use Rattle.decoder.specs.declared.SilkPLCState.{SilkPLCState}
 use Rattle.decoder.specs.declared.SilkDecoderState.{SilkDecoderState}
 use Rattle.decoder.proofs.Between.{either, Between}
 use Rattle.decoder.proofs.Bounds.{PlcHeldBounds, PlcBounds}
-use Rattle.decoder.proofs.Built.{typed-build}
+use Rattle.decoder.proofs.Built.{typed-plc}
 use Rattle.glue.specs.Glue.{holdEnergy, ramped, startGain, lowered, joined, glueFrames}
 use Rattle.glue.proofs.Shifts.{shift-most}
 
@@ -121,8 +121,7 @@ glued-typed s n frame l m w t =
     let b : Bounded 32768 frame = λ i. fits-abs (getD frame i (pos 0)) (w .fits i) in
     let e = energy-small frame b (omega arith) (omega arith) in
     let k = shift-most frame (omega arith) in
-    typed-build t (t .«prev_gain_q16») (t .«exc_q14») (t .«s_lpc_q14_buf») (t .«out_buf») (t .«lag_prev») (t .«prev_nlsf_q15»)
-    (t .«first_frame_after_reset») (t .«s_cng») (t .«loss_cnt») (t .«prev_signal_type»)
+    typed-plc t
     (either TypedPlc (eqℤ (s .«loss_cnt») (pos 0)) {x = holdEnergy h (pos 0) (h .«conc_energy») (h .«conc_energy_shift»)} {y = holdEnergy h (pos 1) (pos (energyAt frame (energyShift frame))) (pos (energyShift frame))}
     (held-typed h (pos 0) (h .«conc_energy») (h .«conc_energy_shift») (t .«s_plc») (record { sfits = omega arith }) (t .«s_plc» .«conc_energy») (t .«s_plc» .«conc_energy_shift»))
     (held-typed h (pos 1) (pos (energyAt frame (energyShift frame))) (pos (energyShift frame)) (t .«s_plc») (record { sfits = omega arith }) (record { sfits = omega arith }) (record { sfits = omega arith })))

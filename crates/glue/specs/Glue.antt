@@ -9,7 +9,8 @@ use lib.Signed.{ltZ, quotZ}
 use Rattle.word.specs.Int.{floorDiv, eqℤ, wrap16, wrap32, maxℤ}
 use Rattle.macros.specs.Fixed.{smulwb, sqrtApprox, clz32}
 use Rattle.sigproc.specs.Energy.{energyAt, energyShift}
-use Rattle.decoder.specs.Outcome.{Framed, build}
+use Rattle.decoder.specs.With.{withPlc}
+use Rattle.decoder.specs.Outcome.{Framed}
 use Rattle.decoder.specs.declared.SilkPLCState.{SilkPLCState}
 use Rattle.decoder.specs.declared.SilkDecoderState.{SilkDecoderState}
 
@@ -71,12 +72,6 @@ glueFrames s frame =
     cond received (holdEnergy h (pos 0) (h .«conc_energy») (h .«conc_energy_shift»))
     (holdEnergy h (pos 1) (pos (energyAt frame shift)) (pos shift)) in
     record {
-      state =
-          build s (s .«prev_gain_q16») (s .«exc_q14») (s .«s_lpc_q14_buf») (s .«out_buf») (s .«lag_prev») (s .«prev_nlsf_q15»)
-          (s .«first_frame_after_reset»)
-          (s .«s_cng»)
-          (s .«loss_cnt»)
-          (s .«prev_signal_type»)
-          after;
+      state = withPlc s after;
       frame = cond received (cond (eqℤ (h .«last_frame_lost») (pos 0)) frame (joined (h .«conc_energy») (h .«conc_energy_shift») frame)) frame;
     }

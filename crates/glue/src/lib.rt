@@ -2,12 +2,12 @@
 // Inner: every function but silk_plc_glue_frames.
 use decoder::SilkDecoderState;
 use decoder::SilkPLCState;
+use decoder::StateAnswer;
 use macros::silk_clz32;
 use macros::silk_div32;
 use macros::silk_max_32;
 use macros::silk_smulwb;
 use macros::silk_sqrt_approx;
-use refusal::Refusal;
 use sigproc::silk_sum_sqr_shift;
 use word::add32;
 use word::low16;
@@ -26,11 +26,6 @@ ghost use Rattle.macros.specs.Fixed.{smulwb};
 ghost use Rattle.sigproc.specs.Energy.{energyAt, energyShift};
 ghost use Rattle.glue.specs.Glue.{holdEnergy, ramped, startGain, lowered, joined, glueFrames};
 ghost use Rattle.glue.specs.Answer.{glueAnswer, glueOutput};
-
-pub struct GlueAnswer {
-    pub refusal: Refusal,
-    pub state: SilkDecoderState,
-}
 
 // A sample times a gain (Q16); the cast to 16 bits cuts.
 fn scaled(gain: i32, x: i16) -> i16
@@ -136,13 +131,13 @@ fn glue_frames(s: SilkDecoderState, frame: &mut [i16]) -> SilkDecoderState
 }
 
 // Gluing as a call on the first n samples of a buffer: refused, it changes nothing.
-pub fn silk_plc_glue_frames(s: SilkDecoderState, frame: &mut [i16], n: usize) -> GlueAnswer
+pub fn silk_plc_glue_frames(s: SilkDecoderState, frame: &mut [i16], n: usize) -> StateAnswer
     ensures { λ r. ⌜ (r ≡ glueAnswer s (now (frame .entry)) n) × (now (frame .exit) ≡ glueOutput s (now (frame .entry)) n) ⌝ }
 {
     let refusal = judge::glue(s, frame.len(), n);
     if refusal::number(refusal) != 0 {
-        return GlueAnswer { refusal, state: s };
+        return StateAnswer { refusal, state: s };
     }
     let state = glue_frames(s, &mut frame[..n]);
-    GlueAnswer { refusal, state }
+    StateAnswer { refusal, state }
 }

@@ -1,6 +1,6 @@
 -- A frame to an accepted state that row 3 refuses at no coming shape: 1 and 2 are given for the coming shape alone, and 3 never.
 use Prim.Native.Nat.{ℕ, _<_, _≤_}
-use mathlib.Core.Path.{_≡_, refl, ap}
+use mathlib.Core.Path.{_≡_, refl, ap, _∙_}
 use mathlib.Core.Bool.{Bool, true, false, not, cond}
 use mathlib.Core.Logic.{_⊎_, inl, inr}
 use mathlib.Core.List.{List, _++_}
@@ -11,8 +11,8 @@ use Rattle.refusal.specs.First.{Row, firstOr, firstOf}
 use Rattle.refusal.specs.Refusals.{refusalNumber}
 use Rattle.refusal.specs.declared.Refusal.{Refusal}
 use Rattle.refusal.specs.declared.Refusal.the-variants.{Nothing, Rate, Size, History}
-use Rattle.refusal.proofs.Clear.{passed, from, refused-from}
-use Rattle.shape.specs.Shape.{shape, isRate, isCount, rateOf}
+use Rattle.refusal.proofs.Clear.{passed, first-append, from, refused-from}
+use Rattle.shape.specs.Shape.{isRate, isCount, rateOf}
 use Rattle.decoder.specs.Reshape.{reshaped}
 use Rattle.decoder.specs.Rows.{historyRow, comingRows}
 use Rattle.decoder.specs.Accepted.{Accepted}
@@ -20,7 +20,7 @@ use Rattle.decoder.specs.declared.SilkDecoderState.{SilkDecoderState}
 use Rattle.decoder.specs.declared.SilkDecoderControl.{SilkDecoderControl}
 use Rattle.decoder.specs.declared.Frame.{Frame}
 use Rattle.decoder.specs.declared.Frame.the-variants.{Received, Lost}
-use Rattle.judge.specs.Rows.{runFullRow, roomRow, lostRows, frameRows}
+use Rattle.judge.specs.Rows.{frameRows}
 
 -- nothing is refused, or a row from 4 on
 abbrev Later : Refusal → Type 0
@@ -56,8 +56,9 @@ module _ (khz nb : ℤ) (s : SilkDecoderState) (a : Accepted (rateOf (s .«fs_kh
   frame-refused (Received q) c lines pulses output h = past _ refl h
   frame-refused Lost c lines pulses output h = past _ refl h
 
-  -- a lost frame is played, unless the run is full or too few samples are lent
-  pub lost-accepted : (output : ℕ) → isRate khz ≡ true → isCount nb ≡ true → historyRow (rateOf khz) (reshaped khz nb s) ≡ false → runFullRow s ≡ false → roomRow (shape khz nb) output ≡ false
-      → firstOf (lostRows khz nb s output) ≡ Nothing
-  lost-accepted output e f h full room =
-      passed (lostRows khz nb s output) Nothing (a .rate, (ap not e, (a .size, (ap not f, (h, (full, (room, tt)))))))
+  -- the rows from 4 on alone decide, where the coming shape is one that row 3 lets pass
+  pub past-coming : (rows : List Row) → isRate khz ≡ true → isCount nb ≡ true → historyRow (rateOf khz) (reshaped khz nb s) ≡ false
+      → firstOf (comingRows khz nb s ++ rows) ≡ firstOf rows
+  past-coming rows e f h =
+      first-append (comingRows khz nb s) rows Nothing
+      ∙ passed (comingRows khz nb s) (firstOf rows) (a .rate, (ap not e, (a .size, (ap not f, (h, tt)))))

@@ -63,6 +63,10 @@ paramRows p q c =
     ∷ (tapsRow (p .subframes) q c gives Taps)
     ∷ []
 
+-- rows 5 to 9
+abbrev pub descriptionRows : Shape → Params → SilkDecoderControl → List ℤ → List Row
+descriptionRows p q c lines = paramRows p q c ++ (lineRow p lines gives Line) ∷ []
+
 -- rows 10 and 11
 abbrev pub roomRows : Shape → ℕ → ℕ → List Row
 roomRows p pulses output = (roomRow p pulses gives Pulses) ∷ (roomRow p output gives Speaker) ∷ []
@@ -77,7 +81,7 @@ module _ (khz nb : ℤ) (s : SilkDecoderState) where
   abbrev pub receivedRows : Params → SilkDecoderControl → List ℤ → ℕ → ℕ → List Row
   receivedRows q c lines pulses output =
       let p = shape khz nb in
-      comingRows khz nb s ++ paramRows p q c ++ (lineRow p lines gives Line) ∷ roomRows p pulses output
+      comingRows khz nb s ++ descriptionRows p q c lines ++ roomRows p pulses output
 
   -- those of a lost one: 1 to 4 and 11
   abbrev pub lostRows : ℕ → List Row

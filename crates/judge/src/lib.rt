@@ -37,7 +37,7 @@ ghost use Rattle.shape.specs.Shape.{shape, rateOf, countOf};
 ghost use Rattle.decoder.specs.Ranges.{within, linesFit};
 ghost use Rattle.decoder.specs.Rows.{stateRows, comingRows};
 ghost use Rattle.judge.specs.Taps.{tapSum, tapsFit};
-ghost use Rattle.judge.specs.Rows.{signalRow, gainRow, lagRow, tapsRow, roomRow, lengthRow, paramRows, roomRows, lossRows, receivedRows, lostRows, frameRows, coreRows, plcReceivedRows, plcLostRows, glueRows, cngRows};
+ghost use Rattle.judge.specs.Rows.{signalRow, gainRow, lagRow, tapsRow, roomRow, lengthRow, paramRows, descriptionRows, roomRows, lossRows, receivedRows, lostRows, frameRows, coreRows, plcReceivedRows, plcLostRows, glueRows, cngRows};
 
 fn tap(taps: &[i16; 20], i: usize) -> i32
     requires { ⌜ i < 20 ⌝ }
@@ -190,6 +190,34 @@ fn param_rows(
     first(signal, Refusal::Signal, from_6)
 }
 
+// Rows 5 to 9, and what is after them.
+fn description_rows(
+    fs_khz: i32,
+    nb_subfr: i32,
+    q: Params,
+    c: SilkDecoderControl,
+    lines: [i16; 16],
+    other: Refusal,
+) -> Refusal
+    ensures { λ r. ⌜ r ≡ firstOr (descriptionRows (shape «fs_khz» «nb_subfr») q c lines) other ⌝ }
+{
+    let line = first(line_row(fs_khz, lines), Refusal::Line, other);
+    param_rows(fs_khz, nb_subfr, q, c, line)
+}
+
+// A received frame's description alone, at a shape.
+pub fn description(
+    fs_khz: i32,
+    nb_subfr: i32,
+    q: Params,
+    c: SilkDecoderControl,
+    lines: [i16; 16],
+) -> Refusal
+    ensures { λ r. ⌜ r ≡ firstOf (descriptionRows (shape «fs_khz» «nb_subfr») q c lines) ⌝ }
+{
+    description_rows(fs_khz, nb_subfr, q, c, lines, Refusal::Nothing)
+}
+
 // Rows 10 and 11.
 fn room_rows(fs_khz: i32, nb_subfr: i32, pulses: usize, output: usize) -> Refusal
     ensures { λ r. ⌜ r ≡ firstOf (roomRows (shape «fs_khz» «nb_subfr») pulses output) ⌝ }
@@ -222,12 +250,13 @@ pub fn received(
 ) -> Refusal
     ensures { λ r. ⌜ r ≡ firstOf (receivedRows khz «nb_subfr» s q c lines pulses output) ⌝ }
 {
-    let line = first(
-        line_row(khz, lines),
-        Refusal::Line,
-        room_rows(khz, nb_subfr, pulses, output),
-    );
-    coming_rows(s, khz, nb_subfr, param_rows(khz, nb_subfr, q, c, line))
+    let rooms = room_rows(khz, nb_subfr, pulses, output);
+    coming_rows(
+        s,
+        khz,
+        nb_subfr,
+        description_rows(khz, nb_subfr, q, c, lines, rooms),
+    )
 }
 
 // A whole lost frame with its coming shape.

@@ -12,7 +12,7 @@ use mir.Syntax.{Width, w16, w32}
 use Rattle.word.proofs.Rows.{neither}
 use Rattle.decoder.specs.Typed.{Words, Typed, TypedControl, TypedRows}
 use Rattle.decoder.proofs.Types.{AllFit, take-fits, drop-fits}
-use Rattle.layout.specs.Layout.{WORDS, HALVES, part, shortState, cngIn, plcIn, stateIn}
+use Rattle.layout.specs.Layout.{WORDS, HALVES, part, shortState, cngIn, plcIn, settingsIn, stateIn}
 use Rattle.layout.specs.Frame.{FRAME, COEFS, shortFrame, shortCall, controlIn, rowsIn}
 use Rattle.layout.proofs.Pieces.{length-part}
 
@@ -20,7 +20,7 @@ pub part-words : {w : Width} (xs : List ℤ) (at n : ℕ) → AllFit w xs → at
 part-words xs at n f h = record { count = length-part xs at n h; fits = take-fits n (drop at xs) (drop-fits at xs f) }
 
 pub state-typed : (words halves : List ℤ) → AllFit w32 words → AllFit w16 halves → WORDS ≤ length words → HALVES ≤ length halves → Typed (stateIn words halves)
-unfolding stateIn plcIn cngIn
+unfolding stateIn plcIn cngIn settingsIn
 state-typed words halves f g l k =
     record {
       «prev_gain_q16» = f 0;
@@ -61,6 +61,7 @@ state-typed words halves f g l k =
         «nb_subfr» = f 355;
         «subfr_length» = f 356;
       };
+      settings = record { squelch = f 696; edition = f 697 };
     }
 
 pub control-typed : (frame coefs : List ℤ) → AllFit w32 frame → AllFit w16 coefs → FRAME ≤ length frame → 20 ≤ length coefs → TypedControl (controlIn frame coefs)

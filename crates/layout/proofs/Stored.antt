@@ -10,7 +10,7 @@ use lib.IntN.{ℤ, pos}
 use Rattle.sigproc.specs.Place.{putAt}
 use Rattle.decoder.specs.Typed.{Typed}
 use Rattle.decoder.specs.declared.SilkDecoderState.{SilkDecoderState}
-use Rattle.layout.specs.Layout.{WORDS, HALVES, part, one, cngIn, plcIn, stateIn, numbers, stateWords, stateHalves}
+use Rattle.layout.specs.Layout.{WORDS, HALVES, part, one, cngIn, plcIn, settingsIn, stateIn, numbers, lastNumbers, stateWords, stateHalves}
 
 -- ---- lists one after the other
 -- and what stands behind them
@@ -56,7 +56,7 @@ two g e = ext-getD (pos 0) (one g 0 ∷ one g 1 ∷ []) g (sym e) at
 -- ---- a state
 -- the lengths of its lists in words and in halves
 abbrev wordSizes : List ℕ
-wordSizes = 1 ∷ 320 ∷ 16 ∷ 15 ∷ 2 ∷ 3 ∷ 320 ∷ 16 ∷ 3 ∷ []
+wordSizes = 1 ∷ 320 ∷ 16 ∷ 15 ∷ 2 ∷ 3 ∷ 320 ∷ 16 ∷ 5 ∷ []
 
 abbrev halfSizes : List ℕ
 halfSizes = 480 ∷ 16 ∷ 5 ∷ 16 ∷ 2 ∷ 16 ∷ []
@@ -74,7 +74,7 @@ module _ (s : SilkDecoderState) (t : Typed s) where
       ∷ (h .«fs_khz» ∷ h .«nb_subfr» ∷ h .«subfr_length» ∷ [])
       ∷ n .«cng_exc_buf_q14»
       ∷ n .«cng_synth_state»
-      ∷ (n .«cng_smth_gain_q16» ∷ n .«rand_seed» ∷ n .«fs_khz» ∷ [])
+      ∷ (n .«cng_smth_gain_q16» ∷ n .«rand_seed» ∷ n .«fs_khz» ∷ s .settings .squelch ∷ s .settings .edition ∷ [])
       ∷ []
 
   word-lengths : Lengths wordLists wordSizes
@@ -82,7 +82,7 @@ module _ (s : SilkDecoderState) (t : Typed s) where
       (refl, (t .«exc_q14» .count, (t .«s_lpc_q14_buf» .count, (refl, (refl, (refl, (t .«s_cng» .«cng_exc_buf_q14» .count, (t .«s_cng» .«cng_synth_state» .count, (refl, tt)))))))))
 
   words-laid : (rest : List ℤ) → stateWords s ++ rest ≡ laid wordLists rest
-  unfolding stateWords numbers
+  unfolding stateWords numbers lastNumbers
   words-laid rest = simp append-assoc
 
   abbrev halfLists : List (List ℤ)
@@ -104,9 +104,8 @@ module _ (s : SilkDecoderState) (t : Typed s) where
   unfolding stateHalves
   halves-laid rest = simp append-assoc
 
-  -- 696 words and 535 halves
   pub words-count : length (stateWords s) ≡ WORDS
-  unfolding stateWords numbers
+  unfolding stateWords numbers lastNumbers
   words-count =
       simp length-append (omega (arith, t .«exc_q14» .count, t .«s_lpc_q14_buf» .count, t .«s_cng» .«cng_exc_buf_q14» .count, t .«s_cng» .«cng_synth_state» .count))
 
@@ -143,8 +142,8 @@ module _ (s : SilkDecoderState) (t : Typed s) where
     n5 : (i : ℕ) → i < 3 → one W (354 + i) ≡ one (getD wordLists 5 []) i
     n5 i h = number W _ 354 3 i (word 5 (lit< tt)) h
 
-    n8 : (i : ℕ) → i < 3 → one W (693 + i) ≡ one (getD wordLists 8 []) i
-    n8 i h = number W _ 693 3 i (word 8 (lit< tt)) h
+    n8 : (i : ℕ) → i < 5 → one W (693 + i) ≡ one (getD wordLists 8 []) i
+    n8 i h = number W _ 693 5 i (word 8 (lit< tt)) h
 
     m4 : (i : ℕ) → i < 2 → one H (517 + i) ≡ one (getD halfLists 4 []) i
     m4 i h = number H _ 517 2 i (half 4 (lit< tt)) h
@@ -181,7 +180,7 @@ module _ (s : SilkDecoderState) (t : Typed s) where
         }
 
     pub stored : stateIn W H ≡ s
-    unfolding stateIn
+    unfolding stateIn settingsIn
     stored = λ i.
         record {
           «prev_gain_q16» = n0 i;
@@ -201,4 +200,5 @@ module _ (s : SilkDecoderState) (t : Typed s) where
           «loss_cnt» = n3 8 (lit< tt) i;
           «prev_signal_type» = n3 9 (lit< tt) i;
           «s_plc» = plc-stored i;
+          settings = record { squelch = n8 3 (lit< tt) i; edition = n8 4 (lit< tt) i };
         }

@@ -10,6 +10,7 @@ use Rattle.sigproc.specs.Place.{putAt}
 use Rattle.decoder.specs.Typed.{Typed}
 use Rattle.decoder.specs.declared.SilkCNGState.{SilkCNGState}
 use Rattle.decoder.specs.declared.SilkPLCState.{SilkPLCState}
+use Rattle.decoder.specs.declared.Settings.{Settings}
 use Rattle.decoder.specs.declared.SilkDecoderState.{SilkDecoderState}
 
 -- n numbers from place `at` on
@@ -21,7 +22,7 @@ one xs at = getD xs at (pos 0)
 
 -- the numbers of a state, in 32 and in 16 bits
 abbrev pub WORDS : ℕ
-WORDS = 696
+WORDS = 698
 
 abbrev pub HALVES : ℕ
 HALVES = 535
@@ -59,6 +60,9 @@ plcIn words halves =
       «subfr_length» = one words 356;
     }
 
+unfoldable pub settingsIn : List ℤ → Settings
+settingsIn words = record { squelch = one words 696; edition = one words 697 }
+
 -- the state that words and halves hold
 unfoldable pub stateIn : List ℤ → List ℤ → SilkDecoderState
 stateIn words halves =
@@ -80,6 +84,7 @@ stateIn words halves =
       «loss_cnt» = one words 345;
       «prev_signal_type» = one words 346;
       «s_plc» = plcIn words halves;
+      settings = settingsIn words;
     }
 
 -- the numbers between the decoder's arrays and the noise's: the decoder's, then concealment's
@@ -102,12 +107,18 @@ numbers s =
     ∷ h .«subfr_length»
     ∷ []
 
+-- those behind the noise's arrays: the noise's, then the settings
+unfoldable pub lastNumbers : SilkDecoderState → List ℤ
+lastNumbers s =
+    let h = s .«s_cng» in
+    h .«cng_smth_gain_q16» ∷ h .«rand_seed» ∷ h .«fs_khz» ∷ s .settings .squelch ∷ s .settings .edition ∷ []
+
 -- a state's words
 unfoldable pub stateWords : SilkDecoderState → List ℤ
 stateWords s =
     let h = s .«s_cng» in
     (s .«prev_gain_q16» ∷ []) ++ s .«exc_q14» ++ s .«s_lpc_q14_buf» ++ numbers s ++ h .«cng_exc_buf_q14» ++ h .«cng_synth_state»
-    ++ (h .«cng_smth_gain_q16» ∷ h .«rand_seed» ∷ h .«fs_khz» ∷ [])
+    ++ lastNumbers s
 
 -- a state's halves
 unfoldable pub stateHalves : SilkDecoderState → List ℤ

@@ -2,6 +2,7 @@
 // Inner: every function but put_is_read.
 pub mod frame;
 
+use decoder::Settings;
 use decoder::SilkCNGState;
 use decoder::SilkDecoderState;
 use decoder::SilkPLCState;
@@ -15,10 +16,10 @@ ghost use Prim.Native.Nat.{_+_, _≤_};
 ghost use lib.IntN.{pos};
 ghost use lib.ListN.{length, replicate};
 ghost use Rattle.refusal.specs.Refusals.{ifAccepted};
-ghost use Rattle.layout.specs.Layout.{part, WORDS, HALVES, shortState, cngIn, plcIn, stateIn, numbers, withWords, withHalves, StateStored};
+ghost use Rattle.layout.specs.Layout.{part, WORDS, HALVES, shortState, cngIn, plcIn, settingsIn, stateIn, numbers, lastNumbers, withWords, withHalves, StateStored};
 ghost use Rattle.layout.specs.Frame.{FrameStored};
 
-pub const WORDS: usize = 696;
+pub const WORDS: usize = 698;
 
 pub const HALVES: usize = 535;
 
@@ -172,6 +173,16 @@ fn plc_in(words: &[i32], halves: &[i16]) -> SilkPLCState
     }
 }
 
+fn settings_in(words: &[i32]) -> Settings
+    requires { ⌜ WORDS ≤ length (now words) ⌝ }
+    ensures { λ r. ⌜ r ≡ settingsIn (now (words .entry)) ⌝ }
+{
+    Settings {
+        squelch: words[696],
+        edition: words[697],
+    }
+}
+
 // The state that words and halves hold.
 pub fn state_in(words: &[i32], halves: &[i16]) -> SilkDecoderState
     requires { ⌜ (WORDS ≤ length (now words)) × (HALVES ≤ length (now halves)) ⌝ }
@@ -183,6 +194,7 @@ pub fn state_in(words: &[i32], halves: &[i16]) -> SilkDecoderState
     let prev_nlsf_q15 = part16_16(halves, 480);
     let s_cng = cng_in(words, halves);
     let s_plc = plc_in(words, halves);
+    let settings = settings_in(words);
     SilkDecoderState {
         prev_gain_q16: words[0],
         exc_q14,
@@ -201,6 +213,7 @@ pub fn state_in(words: &[i32], halves: &[i16]) -> SilkDecoderState
         loss_cnt: words[345],
         prev_signal_type: words[346],
         s_plc,
+        settings,
     }
 }
 
@@ -234,14 +247,29 @@ fn numbers(s: SilkDecoderState) -> [i32; 20]
     ]
 }
 
+// Those behind the noise's arrays.
+fn last_numbers(s: SilkDecoderState) -> [i32; 5]
+    ensures { λ r. ⌜ r ≡ lastNumbers s ⌝ }
+{
+    let h = s.s_cng;
+    let v = s.settings;
+    [
+        h.cng_smth_gain_q16,
+        h.rand_seed,
+        h.fs_khz,
+        v.squelch,
+        v.edition,
+    ]
+}
+
 fn put_words(s: SilkDecoderState, words: &mut [i32])
     requires { ⌜ WORDS ≤ length (now words) ⌝ }
     ensures { λ _. ⌜ now (words .exit) ≡ withWords (now (words .entry)) s ⌝ }
 {
     let gain = [s.prev_gain_q16];
     let numbers = numbers(s);
+    let last = last_numbers(s);
     let h = s.s_cng;
-    let last = [h.cng_smth_gain_q16, h.rand_seed, h.fs_khz];
     copy32_at(words, 0, &gain);
     copy32_at(words, 1, &s.exc_q14);
     copy32_at(words, 321, &s.s_lpc_q14_buf);

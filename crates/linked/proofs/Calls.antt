@@ -16,15 +16,17 @@ use Rattle.decoder.specs.declared.Frame.{Frame}
 use Rattle.decoder.specs.declared.Frame.the-variants.{Received, Lost}
 use Rattle.decode_frame.specs.Answer.{frameRefusal, frameAnswer}
 use Rattle.decode_frame.proofs.Kept.{Good}
-use Rattle.lists.specs.Lists.{stateAfter, counted, countAfter}
+use Rattle.lists.specs.Lists.{stateAfter, heldSum, Losses, counted, countAfter}
 use Rattle.lists.specs.Claims.{NotForState, TypedBeside, TypedCall}
 use Rattle.lists.proofs.Keeps.{keeps}
 use Rattle.layout.specs.Layout.{WORDS, HALVES, stateWords, stateHalves, withWords, withHalves}
 use Rattle.layout.specs.Frame.{COEFS}
 use Rattle.layout.proofs.Stored.{stored, words-count, halves-count}
 use Rattle.layout.proofs.Slices.{part-words, control-typed, rows-typed, call-long}
-use Rattle.post.specs.Calls.{Slices, called}
-use Rattle.post.specs.Stages.{callShort, playedCall, frameCall}
+use Rattle.slices.specs.Slices.{Slices}
+use Rattle.slices.specs.Whole.{playedOn}
+use Rattle.post.specs.Calls.{called}
+use Rattle.post.specs.Stages.{callShort, frameCall}
 use Rattle.linked.specs.Linked.{Held, stateOf, Linked, lentTo, callOf, broughtBy, heldIn, leftBy, lossesAfter}
 use Rattle.linked.specs.Claims.{TypedLinked}
 
@@ -93,15 +95,15 @@ module _ (m : Held) (x : Linked) where
 
   -- one that answers 0
   pub frame-played : callOf m x .answer ≡ pos 0 → (callShort (lentTo m x) ≡ false) × (refusalNumber (frameRefusal (stateOf m) (broughtBy x)) ≡ 0) × (leftBy (callOf m x) ≡ storedIn m (stateAfter (stateOf m) (broughtBy x)))
-  unfolding frameCall playedCall stateAfter frameAnswer
+  unfolding frameCall playedOn stateAfter frameAnswer
   frame-played z = let p = played _ _ _ _ z in (p .0, p .1, ap heldIn (p .2))
 
   frame-unplayed : eqℤ (callOf m x .answer) (pos 0) ≡ false → leftBy (callOf m x) ≡ m
-  unfolding frameCall playedCall
+  unfolding frameCall
   frame-unplayed z = ap heldIn (unplayed _ _ _ _ z)
 
   pub frame-not-for-state : (khz nb : ℤ) → NotForState khz nb (pos (refusalNumber (frameRefusal (stateOf m) (broughtBy x)))) → NotForState khz nb (callOf m x .answer)
-  unfolding frameCall playedCall frameAnswer
+  unfolding frameCall
   frame-not-for-state khz nb h = not-for-state _ _ _ _ khz nb h
 
   module _ (t : TypedLinked x) (g : GoodHeld m) where
@@ -112,19 +114,22 @@ module _ (m : Held) (x : Linked) where
         stored-good m (leftBy (callOf m x)) (stateAfter (stateOf m) (broughtBy x)) (p .2) (g .long) (keeps (stateOf m) (broughtBy x) (g .good) (brought-typed t (p .0)))
 
     -- an invariant of the state and of the losses that count goes on if the whole-frame call keeps it
-    pub goes-on : (R : SilkDecoderState → ℕ → Type 0) (n : ℕ) → R (stateOf m) n
-        → (TypedCall (broughtBy x) → R (stateAfter (stateOf m) (broughtBy x)) (countAfter (stateOf m) (broughtBy x) n))
-        → GoodHeld (leftBy (callOf m x)) × R (stateOf (leftBy (callOf m x))) (lossesAfter (callOf m x) (broughtBy x .frame) n)
+    pub goes-on : (R : SilkDecoderState → Losses → Type 0) (l : Losses) → R (stateOf m) l
+        → (TypedCall (broughtBy x) → R (stateAfter (stateOf m) (broughtBy x)) (countAfter (stateOf m) (broughtBy x) l))
+        → GoodHeld (leftBy (callOf m x)) × R (stateOf (leftBy (callOf m x))) (lossesAfter m x l)
     unfolding lossesAfter countAfter
-    goes-on R n r f = go (eqℤ (callOf m x .answer) (pos 0)) refl
+    goes-on R l r f = go (eqℤ (callOf m x .answer) (pos 0)) refl
       where
-        go : (b : Bool) → eqℤ (callOf m x .answer) (pos 0) ≡ b → GoodHeld (leftBy (callOf m x)) × R (stateOf (leftBy (callOf m x))) (cond b (counted (broughtBy x .frame) n) n)
+        next : Losses
+        next = counted (broughtBy x .frame) (heldSum (stateOf m) (broughtBy x)) l
+
+        go : (b : Bool) → eqℤ (callOf m x .answer) (pos 0) ≡ b → GoodHeld (leftBy (callOf m x)) × R (stateOf (leftBy (callOf m x))) (cond b next l)
         go true e =
             let z = eqℤ-true (callOf m x .answer) (pos 0) e in
             let p = frame-played z in
-            let l = frame-left z in
-            let r = subst (λ (j : ℕ). R (stateAfter (stateOf m) (broughtBy x)) (cond (eqb j 0) (counted (broughtBy x .frame) n) n)) (p .1) (f (brought-typed t (p .0))) in
-            (l .0, subst (λ (s : SilkDecoderState). R s (counted (broughtBy x .frame) n)) (sym (l .1)) r)
+            let k = frame-left z in
+            let r = subst (λ (j : ℕ). R (stateAfter (stateOf m) (broughtBy x)) (cond (eqb j 0) next l)) (p .1) (f (brought-typed t (p .0))) in
+            (k .0, subst (λ (s : SilkDecoderState). R s next) (sym (k .1)) r)
         go false e =
             let s = frame-unplayed e in
-            (subst GoodHeld (sym s) g, subst (λ (h : Held). R (stateOf h) n) (sym s) r)
+            (subst GoodHeld (sym s) g, subst (λ (h : Held). R (stateOf h) l) (sym s) r)

@@ -1,3 +1,4 @@
--- Demand 3 for a program that links the library: its proof.
+-- Claims for a program that links the library: their proofs.
 pub mod Calls
 pub mod Lists
+pub mod Announced

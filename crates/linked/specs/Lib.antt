@@ -1,3 +1,4 @@
--- Demand 3 for a program that links the library: its statement.
+-- Claims for a program that links the library: their statements.
 pub mod Linked
 pub mod Claims
+pub mod Announced

@@ -1,16 +1,15 @@
 -- Lists of post_frame calls, and the slices that a program holds between them.
-use Prim.Native.Nat.{ℕ}
 use mathlib.Core.Bool.{cond}
 use mathlib.Core.List.{List, [], _∷_}
 use lib.IntN.{ℤ, pos}
 use Rattle.word.specs.Int.{eqℤ}
 use Rattle.decoder.specs.declared.SilkDecoderState.{SilkDecoderState}
-use Rattle.decoder.specs.declared.Frame.{Frame}
 use Rattle.decode_frame.specs.Call.{Call}
-use Rattle.lists.specs.Lists.{counted}
+use Rattle.lists.specs.Lists.{heldSum, Losses, counted}
 use Rattle.layout.specs.Layout.{stateIn}
 use Rattle.layout.specs.Frame.{frameIn, rateIn, subframesIn, controlIn, rowsIn, linesIn}
-use Rattle.post.specs.Calls.{Slices, slices, Called}
+use Rattle.slices.specs.Slices.{Slices, slices}
+use Rattle.post.specs.Calls.{Called}
 use Rattle.post.specs.Stages.{frameCall}
 
 -- the slices that hold a state
@@ -59,17 +58,17 @@ abbrev pub leftBy : Called → Held
 leftBy k = heldIn (k .after)
 
 -- the losses that count after a call: only an answer of 0 counts or ends the row, a refusal and −1 do neither
-unfoldable pub lossesAfter : Called → Frame → ℕ → ℕ
-lossesAfter k f n = cond (eqℤ (k .answer) (pos 0)) (counted f n) n
+unfoldable pub lossesAfter : Held → Linked → Losses → Losses
+lossesAfter m x l = cond (eqℤ (callOf m x .answer) (pos 0)) (counted (broughtBy x .frame) (heldSum (stateOf m) (broughtBy x)) l) l
 
 -- a call where it stands in a list: the slices that it gets, and the losses that count there
 pub record At : Type 0 where
   pub held : Held
   pub call : Linked
-  pub losses : ℕ
+  pub losses : Losses
 
 -- each call gets words and halves as the one before left them
-unfoldable pub linkedFrom : Held → ℕ → List Linked → List At
-linkedFrom m n [] = []
-linkedFrom m n (x ∷ xs) =
-    record { held = m; call = x; losses = n } ∷ linkedFrom (leftBy (callOf m x)) (lossesAfter (callOf m x) (broughtBy x .frame) n) xs
+unfoldable pub linkedFrom : Held → Losses → List Linked → List At
+linkedFrom m l [] = []
+linkedFrom m l (x ∷ xs) =
+    record { held = m; call = x; losses = l } ∷ linkedFrom (leftBy (callOf m x)) (lossesAfter m x l) xs

@@ -1,27 +1,31 @@
--- Demand 3: what is claimed of every place of a list, and of which lists.
+-- Demand 3, with document 02, Note 12: what is claimed of every place of a list, and of which lists.
 use Prim.Native.Nat.{ℕ, suc, _≤_}
 use mathlib.Core.Path.{_≡_}
 use mathlib.Core.Bool.{true, false}
-use mathlib.Core.List.{List, [], _∷_}
+use mathlib.Core.List.{List, [], _∷_, _++_}
 use lib.IntN.{ℤ, pos, natAbs}
 use lib.ListN.{getD, length}
 use mir.Syntax.{w16}
 use mir.Val.{SFits}
 use Rattle.word.specs.Size.{Bounded}
+use Rattle.refusal.specs.First.{_gives_, firstOf}
 use Rattle.refusal.specs.Refusals.{refusalNumber}
-use Rattle.refusal.specs.declared.Refusal.the-variants.{Nothing}
+use Rattle.refusal.specs.declared.Refusal.the-variants.{Nothing, Line}
 use Rattle.shape.specs.Shape.{isRate, isCount, rateOf, frameLength}
 use Rattle.decoder.specs.Accepted.{Accepted}
-use Rattle.decoder.specs.SetUp.{setUpRefusal, setUp}
+use Rattle.decoder.specs.Settings.{settingsFit}
+use Rattle.decoder.specs.SetUp.{setUpRefusal, setUpWith}
 use Rattle.decoder.specs.Typed.{Typed, TypedControl, TypedRows, TypedLines}
+use Rattle.decoder.specs.declared.Settings.{Settings}
 use Rattle.decoder.specs.declared.SilkDecoderState.{SilkDecoderState}
 use Rattle.decoder.specs.declared.Frame.{Frame}
 use Rattle.decoder.specs.declared.Frame.the-variants.{Received, Lost}
+use Rattle.judge.specs.Rows.{paramRows, lineRow}
 use Rattle.plc.specs.Conceal.{laterGain, plcConceal}
 use Rattle.decode_frame.specs.Call.{Call, shapeAt, stateAt}
 use Rattle.decode_frame.specs.Answer.{frameRefusal}
-use Rattle.quiet.specs.Bound.{quietBound}
-use Rattle.lists.specs.Lists.{Place, stateAfter, places}
+use Rattle.quiet.specs.Bound.{quietBound, smallSum}
+use Rattle.lists.specs.Lists.{Losses, Place, stateAfter, places}
 
 -- a claim of every element
 pub data Every {A : Type 0} (P : A → Type 0) : List A → Type 0 where
@@ -71,35 +75,67 @@ concealedAt t = plcConceal (shapeAt (t .call)) (stateAt (t .state) (t .call)) (t
 abbrev pub gainAfter : Place → ℕ
 gainAfter t = natAbs (laterGain (stateAfter (t .state) (t .call) .«s_plc»))
 
--- a lost frame that is played with 1,024 or more counted losses before it lies within G/4,194,304, rounded down, plus 64 of zero
-abbrev pub NotLoud : Place → Type 0
-NotLoud t = t .call .frame ≡ Lost → Played t → 1024 ≤ t .losses → Bounded (quietBound (gainAfter t)) (concealedAt t)
+-- 1,024 or more losses count
+abbrev pub LongRow : Losses → Type 0
+LongRow l = 1024 ≤ l .count
 
--- first half: in every list from a set-up no call is refused for the post's own history, whichever shapes come
+-- 128 or more, and the sizes of the coefficients that concealment held at the first of them add up to at most 4,096
+abbrev pub OrdinaryRow : Losses → Type 0
+OrdinaryRow l = (128 ≤ l .count) × (l .held ≤ smallSum)
+
+-- a lost frame that is played with such losses before it lies within G/4,194,304, rounded down, plus 64 of zero
+abbrev pub NotLoud : (Losses → Type 0) → Place → Type 0
+NotLoud Row t = t .call .frame ≡ Lost → Played t → Row (t .losses) → Bounded (quietBound (gainAfter t)) (concealedAt t)
+
+-- first half: in every list from a set-up no call is refused for the post's own history, whatever its settings and whichever shapes come
 abbrev pub FirstHalf : Type 0
-FirstHalf = (khz nb : ℤ) (xs : List Call) → setUpRefusal khz nb ≡ Nothing → TypedCalls xs → Every HistoryKept (places (setUp khz nb .state) xs)
+FirstHalf =
+    (khz nb : ℤ) (v : Settings) (xs : List Call) → setUpRefusal khz nb v ≡ Nothing → TypedCalls xs
+    → Every HistoryKept (places (setUpWith khz nb v .state) xs)
 
--- second half: in every list from an accepted state drops can't keep the post loud
+-- in every list from an accepted state a lost frame with such losses before it is quiet
+abbrev pub QuietAfter : (Losses → Type 0) → Type 0
+QuietAfter Row = (s : SilkDecoderState) (xs : List Call) → Accepted (rateOf (s .«fs_khz»)) s → Typed s → TypedCalls xs → Every (NotLoud Row) (places s xs)
+
+-- second half: drops can't keep the post loud
 abbrev pub SecondHalf : Type 0
-SecondHalf = (s : SilkDecoderState) (xs : List Call) → Accepted (rateOf (s .«fs_khz»)) s → Typed s → TypedCalls xs → Every NotLoud (places s xs)
+SecondHalf = QuietAfter LongRow
+
+-- document 02, Note 12: ordinary speech is quiet sooner
+abbrev pub QuietSooner : Type 0
+QuietSooner = QuietAfter OrdinaryRow
 
 -- in every list from a set-up the losses that count are those that the state counts
 abbrev pub LossesHeld : Type 0
 LossesHeld =
-    (khz nb : ℤ) (xs : List Call) → setUpRefusal khz nb ≡ Nothing → TypedCalls xs
-    → Every (λ t. t .state .«loss_cnt» ≡ pos (t .losses)) (places (setUp khz nb .state) xs)
+    (khz nb : ℤ) (v : Settings) (xs : List Call) → setUpRefusal khz nb v ≡ Nothing → TypedCalls xs
+    → Every (λ t. t .state .«loss_cnt» ≡ pos (t .losses .count)) (places (setUpWith khz nb v .state) xs)
 
--- a lost frame of one of the six shapes, with room for its samples
-pub record LostWithRoom (x : Call) : Type 0 where
-  pub lost : x .frame ≡ Lost
+-- of a received frame rows 5 to 9 don't apply at its shape, and it is lent 5rn pulses; a lost one meets neither
+abbrev pub Described : Frame → Call → Type 0
+Described (Received q) x =
+    (firstOf (paramRows (shapeAt x) q (x .control) ++ (lineRow (shapeAt x) (x .lines) gives Line) ∷ []) ≡ Nothing)
+    × (frameLength (shapeAt x) ≤ length (x .pulses))
+Described Lost x = Unit {0}
+
+-- a frame of one of the six shapes that meets none of rows 5 to 11
+pub record Playable (x : Call) : Type 0 where
   pub rate : isRate (x .rate) ≡ true
   pub count : isCount (x .subframes) ≡ true
+  pub described : Described (x .frame) x
   pub room : frameLength (shapeAt x) ≤ length (x .output)
 
--- the second half is not empty: of up to 2,147,483,647 lost frames with room from a set-up, whatever their shapes, each is played, and
--- before the one numbered k, from 0, there count k losses
+-- of up to 2,147,483,647 such frames from a set-up, whatever its settings and their shapes, each is played
+abbrev pub FramesPlayed : Type 0
+FramesPlayed =
+    (khz nb : ℤ) (v : Settings) (xs : List Call) → setUpRefusal khz nb v ≡ Nothing → TypedCalls xs
+    → length xs ≤ 2147483647 → Every Playable xs
+    → Every Played (places (setUpWith khz nb v .state) xs)
+
+-- neither half is empty: before the k-th of such frames that are lost, counted from 0, there count k losses, with a filter of zeros at the first
 abbrev pub LossesPlayed : Type 0
 LossesPlayed =
-    (khz nb : ℤ) (xs : List Call) → isRate khz ≡ true → isCount nb ≡ true → length xs ≤ 2147483647 → TypedCalls xs
-    → Every LostWithRoom xs
-    → Numbered (λ k t. Played t × (t .losses ≡ k)) 0 (places (setUp khz nb .state) xs)
+    (khz nb : ℤ) (v : Settings) (xs : List Call) → isRate khz ≡ true → isCount nb ≡ true → settingsFit v ≡ true
+    → length xs ≤ 2147483647 → TypedCalls xs
+    → Every (λ x. (x .frame ≡ Lost) × Playable x) xs
+    → Numbered (λ k t. Played t × (t .losses ≡ record { count = k; held = 0 })) 0 (places (setUpWith khz nb v .state) xs)

@@ -16,7 +16,7 @@ use Rattle.stability.specs.Stability.{stability, inverseGain}
 use Rattle.nlsf.specs.Lines.{lpcCoefficients}
 use Rattle.nlsf.specs.Expand.{bwexpander32}
 use Rattle.nlsf.specs.Fit.{Fit, maxabs, fitChirp, inQ12, rounded, saturated, lpcFit}
-use Rattle.nlsf.specs.Filter.{roundChirp, stabilised, nlsf2a}
+use Rattle.nlsf.specs.Filter.{roundChirp, expanded, stabilised, nlsf2a}
 use Rattle.nlsf.proofs.Polynomials.{length-coefficients}
 use Rattle.nlsf.proofs.Rounds.{length-bwexpander32}
 
@@ -51,22 +51,25 @@ fit-sound (suc n) a d e =
     either (ltZ (pos 32767) m) d (lpcFit n b) (record { q12 = rounded a; q17 = a })
     (fit-sound n b d (length-bwexpander32 _ a ∙ e)) (rw (← e) (rounded-sound a))
 
-rounds-sound : (n i : ℕ) (f : Fit) (d : ℕ) → Sound d f → Sound d (stabilised n i f)
+pub fit-length : (lines : List ℤ) (d : ℕ) → length (lpcFit 10 (lpcCoefficients lines d) .q17) ≡ d
+fit-length lines d = fit-sound 10 (lpcCoefficients lines d) d (length-coefficients lines d) .1
+
+rounds-sound : (e : ℤ) (n i : ℕ) (f : Fit) (d : ℕ) → Sound d f → Sound d (stabilised e n i f)
 unfolding stabilised
-rounds-sound zero i f d h = h
-rounds-sound (suc n) i f d h =
+rounds-sound e zero i f d h = h
+rounds-sound e (suc n) i f d h =
     let a = bwexpander32 (roundChirp i) (f .q17) in
     let l : length a ≡ d = length-bwexpander32 (roundChirp i) (f .q17) ∙ h .1 in
-    either (eqℤ (inverseGain (stability (f .q12))) (pos 0)) d (stabilised n (suc i) (record { q12 = rounded a; q17 = a })) f
-    (rounds-sound n (suc i) (record { q12 = rounded a; q17 = a }) d (rw (← l) (rounded-sound a))) h
+    either (eqℤ (inverseGain (stability e (f .q12))) (pos 0)) d (stabilised e n (suc i) (expanded i f)) f
+    (rounds-sound e n (suc i) (expanded i f) d (rw (← l) (rounded-sound a))) h
 
-whole : (lines : List ℤ) (d : ℕ) → Sound d (stabilised 16 0 (lpcFit 10 (lpcCoefficients lines d)))
-whole lines d = rounds-sound 16 0 _ d (fit-sound 10 (lpcCoefficients lines d) d (length-coefficients lines d))
+whole : (e : ℤ) (lines : List ℤ) (d : ℕ) → Sound d (stabilised e 16 0 (lpcFit 10 (lpcCoefficients lines d)))
+whole e lines d = rounds-sound e 16 0 _ d (fit-sound 10 (lpcCoefficients lines d) d (length-coefficients lines d))
 
-pub length-nlsf2a : (lines : List ℤ) (d : ℕ) → length (nlsf2a lines d) ≡ d
+pub length-nlsf2a : (e : ℤ) (lines : List ℤ) (d : ℕ) → length (nlsf2a e lines d) ≡ d
 unfolding nlsf2a
-length-nlsf2a lines d = whole lines d .0
+length-nlsf2a e lines d = whole e lines d .0
 
-pub nlsf2a-fits : (lines : List ℤ) (d k : ℕ) → SFits w16 (getD (nlsf2a lines d) k (pos 0))
+pub nlsf2a-fits : (e : ℤ) (lines : List ℤ) (d k : ℕ) → SFits w16 (getD (nlsf2a e lines d) k (pos 0))
 unfolding nlsf2a
-nlsf2a-fits lines d k = whole lines d .2 k
+nlsf2a-fits e lines d k = whole e lines d .2 k

@@ -13,7 +13,7 @@ use Rattle.word.proofs.Lists.{length-tabulate}
 use Rattle.stability.specs.Stability.{stability, inverseGain}
 use Rattle.nlsf.specs.Expand.{bwexpander32}
 use Rattle.nlsf.specs.Fit.{Fit, higher, maxabs, fitChirp, inQ12, rounded, saturated, lpcFit}
-use Rattle.nlsf.specs.Filter.{roundChirp, stabilised}
+use Rattle.nlsf.specs.Filter.{expanded, stabilised}
 
 pub length-bwexpander32 : (chirp : ℤ) (a : List ℤ) → length (bwexpander32 chirp a) ≡ length a
 unfolding bwexpander32
@@ -51,21 +51,21 @@ unfolding lpcFit
 fit-ends a = refl
 
 -- a round that stabilises them
-module _ (q a : List ℤ) (i : ℕ) (h : i < 16) where
+module _ (e : ℤ) (q a : List ℤ) (i : ℕ) (h : i < 16) where
   abbrev Stable : Bool → Type 0
-  Stable b = eqℤ (inverseGain (stability q)) (pos 0) ≡ b
+  Stable b = eqℤ (inverseGain (stability e q)) (pos 0) ≡ b
 
   rounds-left : 16 - i ≡ suc (16 - (i + 1))
   rounds-left = omega arith
 
-  pub rounds-stop : Stable false → stabilised (16 - i) i (record { q12 = q; q17 = a }) ≡ record { q12 = q; q17 = a }
+  pub rounds-stop : Stable false → stabilised e (16 - i) i (record { q12 = q; q17 = a }) ≡ record { q12 = q; q17 = a }
   unfolding stabilised
-  rounds-stop e = rw (rounds-left, e) refl
+  rounds-stop s = rw (rounds-left, s) refl
 
-  pub rounds-go-on : Stable true → let b = bwexpander32 (roundChirp i) a in stabilised (16 - i) i (record { q12 = q; q17 = a }) ≡ stabilised (16 - (i + 1)) (i + 1) (record { q12 = rounded b; q17 = b })
+  pub rounds-go-on : Stable true → stabilised e (16 - i) i (record { q12 = q; q17 = a }) ≡ stabilised e (16 - (i + 1)) (i + 1) (expanded i (record { q12 = q; q17 = a }))
   unfolding stabilised
-  rounds-go-on e = rw (rounds-left, e, add-one) refl
+  rounds-go-on s = rw (rounds-left, s, add-one) refl
 
-pub rounds-end : (i : ℕ) (f : Fit) → stabilised 0 i f ≡ f
+pub rounds-end : (e : ℤ) (i : ℕ) (f : Fit) → stabilised e 0 i f ≡ f
 unfolding stabilised
-rounds-end i f = refl
+rounds-end e i f = refl

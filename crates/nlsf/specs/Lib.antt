@@ -5,3 +5,4 @@ pub mod Lines
 pub mod Expand
 pub mod Fit
 pub mod Filter
+pub mod Editions

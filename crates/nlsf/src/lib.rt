@@ -1,7 +1,9 @@
 // The filter from line frequencies (nlsf.rs, lpc_fit.rs, tables.rs).
-// Inner: every function but silk_nlsf2a and lsf_cos_kept.
+// Inner: every function but silk_nlsf2a, silk_nlsf2a_under, lsf_cos_kept, alike_filter and stable_filter.
 mod tables;
 
+use edition::NEWER;
+use edition::is_edition;
 use macros::silk_rshift_round;
 use macros::silk_smulww;
 use refusal::Refusal;
@@ -29,12 +31,14 @@ ghost use lib.ListN.{length, drop, replicate};
 ghost use lib.Signed.{ltZ};
 ghost use Rattle.word.specs.Int.{sat16};
 ghost use Rattle.word.specs.Tabulate.{tabulate};
+ghost use Rattle.edition.specs.Edition.{newer};
 ghost use Rattle.nlsf.specs.Table.{lsfCosHalf, lsfCos};
 ghost use Rattle.nlsf.specs.Values.{LsfCosKept};
 ghost use Rattle.nlsf.specs.Lines.{negativeLine, lsfCosine, ordering, cosines, timesFactor, poly, evenTerm, oddTerm, lpcCoefficient, lpcCoefficients};
 ghost use Rattle.nlsf.specs.Expand.{nextFactor, bwexpander32};
 ghost use Rattle.nlsf.specs.Fit.{higher, maxabs, fitChirp, inQ12, rounded, saturated, lpcFit};
 ghost use Rattle.nlsf.specs.Filter.{roundChirp, stabilised, nlsf2a, nlsf2aRefusal, nlsf2aOf};
+ghost use Rattle.nlsf.specs.Editions.{AlikeFilter, StableFilter};
 
 // The largest coefficient without its sign, and its place.
 struct Peak {
@@ -42,14 +46,14 @@ struct Peak {
     place: usize,
 }
 
-fn lsf_cos_half() -> [i16; 65]
+pub fn lsf_cos_half() -> [i16; 65]
     ensures { λ r. ⌜ r ≡ lsfCosHalf ⌝ }
 {
     SILK_LSF_COS_TAB_FIX_Q12
 }
 
 // Entry i of the table, above place 64 by its rule.
-fn lsf_cos(tab: &[i16; 65], i: usize) -> i16
+pub fn lsf_cos(tab: &[i16; 65], i: usize) -> i16
     requires { ⌜ (now tab ≡ lsfCosHalf) × (i ≤ 128) ⌝ }
     ensures { λ r. ⌜ r ≡ lsfCos i ⌝ }
 {
@@ -319,12 +323,12 @@ fn round_chirp(i: usize) -> i32
 }
 
 // Bandwidth expansion until the coefficients in Q12 are stable.
-fn stabilise(a_q12: &mut [i16], a: &mut [i32])
+fn stabilise(a_q12: &mut [i16], a: &mut [i32], edition: i32)
     requires { ⌜ (length (now «a_q12») ≡ length (now a)) × (1 ≤ length (now a)) × (length (now a) ≤ 16) ⌝ }
-    ensures { λ _. ⌜ record { q12 = now («a_q12» .exit); q17 = now (a .exit) } ≡ stabilised 16 0 (record { q12 = now («a_q12» .entry); q17 = now (a .entry) }) ⌝ }
+    ensures { λ _. ⌜ record { q12 = now («a_q12» .exit); q17 = now (a .exit) } ≡ stabilised edition 16 0 (record { q12 = now («a_q12» .entry); q17 = now (a .entry) }) ⌝ }
 {
     for i in 0..16 {
-        if inverse_pred_gain(a_q12, a.len()) != 0 {
+        if inverse_pred_gain(a_q12, a.len(), edition) != 0 {
             return;
         }
         silk_bwexpander_32(a, round_chirp(i));
@@ -344,45 +348,61 @@ fn from_lines(nlsf: &[i16], d: usize) -> [i32; 16]
 }
 
 // Coefficients in Q17 made to fit 16 bits and stable.
-fn settle(a_q12: &mut [i16], a: &mut [i32])
+fn settle(a_q12: &mut [i16], a: &mut [i32], edition: i32)
     requires { ⌜ (length (now «a_q12») ≡ length (now a)) × (1 ≤ length (now a)) × (length (now a) ≤ 16) ⌝ }
-    ensures { λ _. ⌜ record { q12 = now («a_q12» .exit); q17 = now (a .exit) } ≡ stabilised 16 0 (lpcFit 10 (now (a .entry))) ⌝ }
+    ensures { λ _. ⌜ record { q12 = now («a_q12» .exit); q17 = now (a .exit) } ≡ stabilised edition 16 0 (lpcFit 10 (now (a .entry))) ⌝ }
 {
     silk_lpc_fit(a_q12, a);
-    stabilise(a_q12, a);
+    stabilise(a_q12, a, edition);
 }
 
 // The filter of the first d lines, for callers whose order and lines are in range.
-pub fn nlsf2a(a_q12: &mut [i16], nlsf: &[i16], d: usize)
+pub fn nlsf2a(a_q12: &mut [i16], nlsf: &[i16], d: usize, edition: i32)
     requires { ⌜ ((d ≡ 10) ⊎ (d ≡ 16)) × (length (now «a_q12») ≡ d) × (d ≤ length (now nlsf)) × (negativeLine (now nlsf) d ≡ false) ⌝ }
-    ensures { λ _. ⌜ now («a_q12» .exit) ≡ nlsf2a (now (nlsf .entry)) d ⌝ }
+    ensures { λ _. ⌜ now («a_q12» .exit) ≡ nlsf2a edition (now (nlsf .entry)) d ⌝ }
 {
     let mut a = from_lines(nlsf, d);
-    settle(a_q12, &mut a[..d]);
+    settle(a_q12, &mut a[..d], edition);
 }
 
 // Why the filter from lines refuses, with n places for the coefficients.
-fn refusal_of(n: usize, nlsf: &[i16], d: usize) -> Refusal
-    ensures { λ r. ⌜ r ≡ nlsf2aRefusal n (now (nlsf .entry)) d ⌝ }
+fn refusal_of(n: usize, nlsf: &[i16], d: usize, edition: i32) -> Refusal
+    ensures { λ r. ⌜ r ≡ nlsf2aRefusal n (now (nlsf .entry)) d edition ⌝ }
 {
     if (d != 10) & (d != 16) | (n < d) | (nlsf.len() < d) {
         return Refusal::Order;
     }
-    if negative_line(nlsf, d) {
-        return Refusal::Line;
-    }
-    Refusal::Nothing
+    let other = refusal::first(!is_edition(edition), Refusal::Edition, Refusal::Nothing);
+    refusal::first(negative_line(nlsf, d), Refusal::Line, other)
 }
 
-// The filter from lines as a call: refused, it writes nothing.
-pub fn silk_nlsf2a(a_q12: &mut [i16], nlsf: &[i16], d: usize) -> Refusal
-    ensures { λ r. ⌜ (r ≡ nlsf2aRefusal (length (now («a_q12» .entry))) (now (nlsf .entry)) d)
-        × (now («a_q12» .exit) ≡ nlsf2aOf (now («a_q12» .entry)) (now (nlsf .entry)) d) ⌝ }
+// The filter from lines as a call under an edition: refused, it writes nothing.
+pub fn silk_nlsf2a_under(a_q12: &mut [i16], nlsf: &[i16], d: usize, edition: i32) -> Refusal
+    ensures { λ r. ⌜ (r ≡ nlsf2aRefusal (length (now («a_q12» .entry))) (now (nlsf .entry)) d edition)
+        × (now («a_q12» .exit) ≡ nlsf2aOf (now («a_q12» .entry)) (now (nlsf .entry)) d edition) ⌝ }
 {
-    let no = refusal_of(a_q12.len(), nlsf, d);
+    let no = refusal_of(a_q12.len(), nlsf, d, edition);
     if refusal::number(no) != 0 {
         return no;
     }
-    nlsf2a(&mut a_q12[..d], nlsf, d);
+    nlsf2a(&mut a_q12[..d], nlsf, d, edition);
     no
 }
+
+// The same where no edition is named.
+pub fn silk_nlsf2a(a_q12: &mut [i16], nlsf: &[i16], d: usize) -> Refusal
+    ensures { λ r. ⌜ (r ≡ nlsf2aRefusal (length (now («a_q12» .entry))) (now (nlsf .entry)) d newer)
+        × (now («a_q12» .exit) ≡ nlsf2aOf (now («a_q12» .entry)) (now (nlsf .entry)) d newer) ⌝ }
+{
+    silk_nlsf2a_under(a_q12, nlsf, d, NEWER)
+}
+
+// If no step of the stability test leaves 32 bits, both editions have the same filter.
+pub fn alike_filter()
+    ensures { λ _. ⌜ AlikeFilter ⌝ }
+{}
+
+// A filter from lines passes its own edition's stability test.
+pub fn stable_filter()
+    ensures { λ _. ⌜ StableFilter ⌝ }
+{}

@@ -10,9 +10,10 @@ use Rattle.refusal.specs.declared.Refusal.{Refusal}
 use Rattle.decoder.specs.declared.SilkDecoderState.{SilkDecoderState}
 use Rattle.decode_frame.specs.Call.{Call, frameCall}
 use Rattle.decode_frame.specs.Answer.{frameAnswer, frameOutput}
-use Rattle.decode_frame.specs.declared.FrameAnswer.{FrameAnswer}
-use Rattle.stream.specs.Bytes.{sampleBytes}
-use Rattle.stream.specs.Record.{frameIn, controlIn, rowsIn, linesIn, pulsesIn}
+use Rattle.decoder.specs.declared.Answer.{Answer}
+use mir.Syntax.{w16}
+use Rattle.le.specs.Bytes.{packed}
+use Rattle.record.specs.Record.{frameIn, controlIn, rowsIn, linesIn, pulsesIn}
 use Rattle.play.specs.declared.Sound.{Sound}
 use Rattle.play.specs.declared.Tally.{Tally}
 use Rattle.play.specs.declared.Ended.{Ended}
@@ -28,7 +29,7 @@ module _ (s : SilkDecoderState) (rate subframes : ℤ) (b : List ℕ) where
   abbrev pub callIn : Call
   callIn = frameCall rate subframes (frameIn b) (controlIn b) (rowsIn b) (linesIn b) (pulsesIn b) silent
 
-  unfoldable pub answer : FrameAnswer
+  unfoldable pub answer : Answer
   answer = frameAnswer s callIn
 
   -- a refused frame leaves the state and the silence
@@ -37,7 +38,7 @@ module _ (s : SilkDecoderState) (rate subframes : ℤ) (b : List ℕ) where
       record {
         refusal = answer .refusal;
         state = answer .state;
-        bytes = sampleBytes (frameOutput s callIn) 320;
+        bytes = packed w16 (frameOutput s callIn) 320;
       }
 
 -- what became of a record of a kind whose frame was answered by a refusal or by none

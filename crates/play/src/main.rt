@@ -1,23 +1,25 @@
 // Plays a recorded stream: standard input has the stream, standard output gets a WAV file, standard error the report.
 // The report has the stream's rate and seconds; its last line counts the frames, if the whole stream was played, else it says why not.
 use decode_frame::silk_decode_frame;
+use decoder::Settings;
 use decoder::SilkDecoderState;
-use decoder::set_up;
+use decoder::set_up_with;
+use edition::NEWER;
+use le::signed_byte;
 use libc::STDERR_FILENO;
 use libc::STDIN_FILENO;
 use libc::STDOUT_FILENO;
+use record::control_in;
+use record::frame_in;
+use record::lines_in;
+use record::pulses_in;
+use record::rows_in;
 use refusal::Refusal;
 use stream::Head;
 use stream::Opened;
-use stream::control_in;
-use stream::frame_in;
-use stream::lines_in;
 use stream::no_bytes;
-use stream::pulses_in;
 use stream::read_header;
-use stream::rows_in;
 use stream::samples_bytes;
-use stream::signed8;
 use stream::silence;
 use stream::wav_header;
 ghost use mathlib.Core.Path.{_≡_};
@@ -295,14 +297,19 @@ fn say_stream(h: Head) {
 }
 
 fn play(h: Head) {
-    let rate = signed8(h.rate);
-    let subframes = signed8(h.subframes);
+    let rate = signed_byte(h.rate);
+    let subframes = signed_byte(h.subframes);
     let head = wav_header(1000 * (h.rate as u32), h.samples);
     if !io::write_all(STDOUT_FILENO, &head) {
         say(b"the WAV file could not be written\n");
         return;
     }
-    let made = set_up(rate, subframes);
+    // No squelch, and the newer edition: a stream's samples are those of the Rust.
+    let settings = Settings {
+        squelch: 0,
+        edition: NEWER,
+    };
+    let made = set_up_with(rate, subframes, settings);
     let s = made.state;
     play_records(
         s,

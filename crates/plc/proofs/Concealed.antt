@@ -24,7 +24,7 @@ use Rattle.decoder.specs.declared.SilkDecoderControl.{SilkDecoderControl}
 use Rattle.decoder.proofs.Between.{Between}
 use Rattle.decoder.proofs.Bounds.{TapBounds, PlcBounds}
 use Rattle.decoder.proofs.Types.{zeros-words, replicate-words}
-use Rattle.decoder.proofs.Built.{words, between-32, between-16, typed-build}
+use Rattle.decoder.proofs.Built.{words, between-32, between-16, typed-memory, typed-losses, typed-plc}
 use Rattle.plc.specs.Hold.{plcReady}
 use Rattle.plc.specs.Update.{middle}
 use Rattle.plc.specs.Conceal.{Voice, laterGain, coefficients, noisePlace, harmGain, noiseGain, lagOf, excited, excitedTimes, faded, fadedVoice, voices, voiceBy, voice, signalBy, signal, concealed, heldAfter, plcConceal}
@@ -92,7 +92,7 @@ module _ (p : Shape) (q : Shaped (p .rate) (p .subframes)) (s : SilkDecoderState
         let e = five (h .«ltp_coef_q14») (k .typed .«ltp_coef_q14» .count) (k .bounds .«ltp_coef_q14») in
         let l = k .bounds .«prev_ltp_scale_q14» in
         let m : Middle b = record { high = k .bounds .«ltp_coef_q14» .high; low = k .bounds .«ltp_coef_q14» .low } in
-        voices-fit p (q .rate-high) (s .«exc_q14») (noisePlace p s h) (harmGain (s .«loss_cnt»)) (noiseGain (s .«loss_cnt») (s .«prev_signal_type») (take (lpcOrder p) (coefficients p s h))) (harm-gain (s .«loss_cnt»)) (noise-gain (s .«loss_cnt») (s .«prev_signal_type») (take (lpcOrder p) (coefficients p s h))) (p .subframes) _
+        voices-fit p (q .rate-high) (s .«exc_q14») (noisePlace p s h) (harmGain (s .«loss_cnt»)) (noiseGain (s .«loss_cnt») (s .«prev_signal_type») (s .settings .edition) (take (lpcOrder p) (coefficients p s h))) (harm-gain (s .«loss_cnt»)) (noise-gain (s .«loss_cnt») (s .«prev_signal_type») (s .settings .edition) (take (lpcOrder p) (coefficients p s h))) (p .subframes) _
         (record {
           tap = b;
           taps = e;
@@ -153,12 +153,7 @@ module _ (p : Shape) (q : Shaped (p .rate) (p .subframes)) (s : SilkDecoderState
     pub conceal-typed : SFits w32 (s .«loss_cnt» +ℤ pos 1) → Typed (plcConceal p s c .state)
     unfolding plcConceal
     conceal-typed loss =
-        typed-build t (t .«prev_gain_q16») (t .«exc_q14») (memory-after (plcReady p (s .«s_plc»)) held-ready) (t .«out_buf») (t .«lag_prev») (t .«prev_nlsf_q15»)
-        (t .«first_frame_after_reset»)
-        (t .«s_cng»)
-        loss
-        (t .«prev_signal_type»)
-        (held-after (plcReady p (s .«s_plc»)) held-ready .typed)
+        typed-plc (typed-losses (typed-memory t (memory-after (plcReady p (s .«s_plc»)) held-ready)) loss) (held-after (plcReady p (s .«s_plc»)) held-ready .typed)
 
     pub conceal-samples : Words w16 (frameLength p) (plcConceal p s c .samples)
     unfolding plcConceal

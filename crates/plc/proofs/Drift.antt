@@ -89,9 +89,9 @@ strong z =
     let n = natAbs (maxℤ (pos (2 ^ 22)) (minℤ (pos (2 ^ 27)) z)) in
     rw (b .is, smulwb-pos (n * 8) 32440 (omega arith) (omega (arith, b .high))) (in-range 0 32767 _ (omega arith) (omega (arith, b .high)))
 
-pub noise-gain : (losses type : ℤ) (a : List ℤ) → Between 0 32767 (noiseGain losses type a)
+pub noise-gain : (losses type edition : ℤ) (a : List ℤ) → Between 0 32767 (noiseGain losses type edition a)
 unfolding noiseGain
-noise-gain losses type a = go (eqℤ type (pos 2)) (eqℤ losses (pos 0)) (inverseGain (stability a))
+noise-gain losses type edition a = go (eqℤ type (pos 2)) (eqℤ losses (pos 0)) (inverseGain (stability edition a))
   where
     go : (v f : Bool) (z : ℤ) → Between 0 32767 (cond v (cond f (pos 31130) (pos 26214)) (cond f (floorDiv (smulwb (maxℤ (pos (2 ^ 22)) (minℤ (pos (2 ^ 27)) z) *ℤ pos (2 ^ 3)) (pos 32440)) (2 ^ 14)) (pos 29491)))
     go true true z = in-range _ _ _ (omega arith) (omega arith)

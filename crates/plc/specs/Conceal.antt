@@ -16,7 +16,8 @@ use Rattle.sigproc.specs.Expand.{bwexpander}
 use Rattle.sigproc.specs.Synthesis.{ltpPrediction, synthesis, played}
 use Rattle.stability.specs.Stability.{stability, inverseGain}
 use Rattle.shape.specs.Shape.{Shape, subfrLength, frameLength, memLength, lpcOrder}
-use Rattle.decoder.specs.Outcome.{Outcome, build}
+use Rattle.decoder.specs.With.{withMemory, withLosses, withPlc}
+use Rattle.decoder.specs.Outcome.{Outcome}
 use Rattle.decoder.specs.declared.SilkPLCState.{SilkPLCState}
 use Rattle.decoder.specs.declared.SilkDecoderState.{SilkDecoderState}
 use Rattle.decoder.specs.declared.SilkDecoderControl.{SilkDecoderControl}
@@ -68,11 +69,12 @@ filterHeld s h = cond (eqℤ (s .«first_frame_after_reset») (pos 0)) (h .«pre
 unfoldable pub coefficients : Shape → SilkDecoderState → SilkPLCState → List ℤ
 coefficients p s h = bwexpander (pos 64881) (filterHeld s h) (lpcOrder p)
 
--- the noise's gain (Q15) from subframe to subframe; at the first loss after a frame that was not voiced, less for a strong filter a
-unfoldable pub noiseGain : ℤ → ℤ → List ℤ → ℤ
-noiseGain losses type a =
+-- the noise's gain (Q15) from subframe to subframe; at the first loss after a frame that was not voiced, less for a filter a that is
+-- strong by an edition's test
+unfoldable pub noiseGain : ℤ → ℤ → ℤ → List ℤ → ℤ
+noiseGain losses type edition a =
     cond (wasVoiced type) (cond (first losses) (pos 31130) (pos 26214))
-    (cond (first losses) (floorDiv (smulwb (maxℤ (pos (2 ^ 22)) (minℤ (pos (2 ^ 27)) (inverseGain (stability a))) *ℤ pos (2 ^ 3)) (pos 32440)) (2 ^ 14))
+    (cond (first losses) (floorDiv (smulwb (maxℤ (pos (2 ^ 22)) (minℤ (pos (2 ^ 27)) (inverseGain (stability edition a))) *ℤ pos (2 ^ 3)) (pos 32440)) (2 ^ 14))
     (pos 29491))
 
 -- the noise's scale (Q14) that the frame starts with
@@ -156,11 +158,11 @@ voices p exc from harm noise (suc k) v =
     let w = voices p exc from harm noise k v in
     fadedVoice (p .rate) harm noise (excitedTimes exc from (natAbs (lagOf (w .pitch))) (subfrLength p) w)
 
--- a frame's excitation, and what is carried on after it, by the losses before it, the last type, the excitation and the samples held, the
--- filter, and where noise is drawn from
-unfoldable pub voiceBy : Shape → ℤ → ℤ → List ℤ → List ℤ → List ℤ → ℕ → SilkPLCState → Voice
-voiceBy p losses type exc x a from h =
-    voices p exc from (harmGain losses) (noiseGain losses type (take (lpcOrder p) a)) (p .subframes)
+-- a frame's excitation, and what is carried on after it, by the losses before it, the last type, the edition, the excitation and the
+-- samples held, the filter, and where noise is drawn from
+unfoldable pub voiceBy : Shape → ℤ → ℤ → ℤ → List ℤ → List ℤ → List ℤ → ℕ → SilkPLCState → Voice
+voiceBy p losses type edition exc x a from h =
+    voices p exc from (harmGain losses) (noiseGain losses type edition (take (lpcOrder p) a)) (p .subframes)
     (record {
       past = rewhitened p x a h;
       taps = h .«ltp_coef_q14»;
@@ -171,7 +173,7 @@ voiceBy p losses type exc x a from h =
 
 unfoldable pub voice : Shape → SilkDecoderState → SilkPLCState → Voice
 voice p s h =
-    voiceBy p (s .«loss_cnt») (s .«prev_signal_type») (s .«exc_q14») (s .«out_buf») (coefficients p s h) (noisePlace p s h) h
+    voiceBy p (s .«loss_cnt») (s .«prev_signal_type») (s .settings .edition) (s .«exc_q14») (s .«out_buf») (coefficients p s h) (noisePlace p s h) h
 
 -- the memory of 16 samples (Q14), and the frame's, by its excitation
 unfoldable pub signalBy : Shape → Voice → List ℤ → List ℤ → List ℤ
@@ -212,14 +214,7 @@ unfoldable pub plcConceal : Shape → SilkDecoderState → SilkDecoderControl �
 plcConceal p s c =
     let h = plcReady p (s .«s_plc») in
     record {
-      state =
-          build s (s .«prev_gain_q16») (s .«exc_q14») (drop (frameLength p) (signal p s h)) (s .«out_buf») (s .«lag_prev»)
-          (s .«prev_nlsf_q15»)
-          (s .«first_frame_after_reset»)
-          (s .«s_cng»)
-          (s .«loss_cnt» +ℤ pos 1)
-          (s .«prev_signal_type»)
-          (heldAfter p s h);
+      state = withPlc (withLosses (withMemory s (drop (frameLength p) (signal p s h))) (s .«loss_cnt» +ℤ pos 1)) (heldAfter p s h);
       control = lagged c (lagOf (voice p s h .pitch));
       samples = concealed p s h;
     }

@@ -9,7 +9,7 @@ use Rattle.word.specs.Int.{floorDiv, wrap16, wrap32, maxℤ}
 use Rattle.macros.specs.Fixed.{smulbb}
 use Rattle.shape.specs.Shape.{Shape, subfrLength, lpcOrder}
 use Rattle.decoder.specs.Signals.{signalNumber, isVoiced}
-use Rattle.decoder.specs.Outcome.{build}
+use Rattle.decoder.specs.With.{withType, withPlc}
 use Rattle.decoder.specs.declared.SilkPLCState.{SilkPLCState}
 use Rattle.decoder.specs.declared.SilkDecoderState.{SilkDecoderState}
 use Rattle.decoder.specs.declared.SilkDecoderControl.{SilkDecoderControl}
@@ -75,10 +75,4 @@ updatedBy p signal c rows held = plcUpdated p (isVoiced signal) c (getD rows 1 [
 
 -- silk_plc for a received frame
 unfoldable pub plcUpdate : Shape → SilkDecoderState → Signal → SilkDecoderControl → List (List ℤ) → SilkDecoderState
-plcUpdate p s signal c rows =
-    build s (s .«prev_gain_q16») (s .«exc_q14») (s .«s_lpc_q14_buf») (s .«out_buf») (s .«lag_prev») (s .«prev_nlsf_q15»)
-    (s .«first_frame_after_reset»)
-    (s .«s_cng»)
-    (s .«loss_cnt»)
-    (signalNumber signal)
-    (updatedBy p signal c rows (s .«s_plc»))
+plcUpdate p s signal c rows = withPlc (withType s (signalNumber signal)) (updatedBy p signal c rows (s .«s_plc»))

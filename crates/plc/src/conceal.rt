@@ -1,9 +1,9 @@
 // Concealment of a lost frame (plc.rs, silk_plc_conceal).
 // Inner: every function but silk_plc_lost.
-use crate::PlcLostAnswer;
 use crate::update::noise_place;
 use crate::update::pitch_max_q8;
 use crate::update::ready;
+use decoder::Answer;
 use decoder::SilkDecoderControl;
 use decoder::SilkDecoderState;
 use decoder::SilkPLCState;
@@ -50,7 +50,7 @@ ghost use Rattle.sigproc.specs.Expand.{bwexpander};
 ghost use Rattle.sigproc.specs.Synthesis.{synthesis, played};
 ghost use Rattle.shape.specs.Shape.{isRate, isCount, rateOf, orderOf, frameLength};
 ghost use Rattle.decoder.specs.State.{shapeOf};
-ghost use Rattle.decoder.specs.Outcome.{build};
+ghost use Rattle.decoder.specs.With.{withMemory, withLosses, withPlc};
 ghost use Rattle.decoder.specs.Ranges.{within, subframesHeld, plcHeld, plcFits};
 ghost use Rattle.judge.specs.Taps.{tapSum};
 ghost use Rattle.plc.specs.Hold.{hold};
@@ -123,15 +123,15 @@ fn limited_gain(inv_gain_q30: i32) -> i32
     )
 }
 
-fn noise_gain(loss_cnt: i32, prev_signal_type: i32, a: &[i16; 16], d: usize) -> i32
+fn noise_gain(loss_cnt: i32, prev_signal_type: i32, edition: i32, a: &[i16; 16], d: usize) -> i32
     requires { ⌜ (1 ≤ d) × (d ≤ 16) ⌝ }
-    ensures { λ r. ⌜ r ≡ noiseGain «loss_cnt» «prev_signal_type» (take d (now (a .entry))) ⌝ }
+    ensures { λ r. ⌜ r ≡ noiseGain «loss_cnt» «prev_signal_type» edition (take d (now (a .entry))) ⌝ }
 {
     match prev_signal_type {
         2 => by_loss(loss_cnt, 31130, 26214),
         _ => {
             if loss_cnt == 0 {
-                limited_gain(inverse_pred_gain(a, d))
+                limited_gain(inverse_pred_gain(a, d, edition))
             } else {
                 29491
             }
@@ -427,6 +427,7 @@ fn voice(
     buf: &mut [i32],
     loss_cnt: i32,
     prev_signal_type: i32,
+    edition: i32,
     exc: &[i32],
     out_buf: &[i16],
     a: &[i16; 16],
@@ -440,12 +441,12 @@ fn voice(
         × (length (now «out_buf») ≡ 480) × (length (now buf) ≡ 640)
         × ((i : ℕ) → getD (now buf) i (pos 0) ≡ pos 0) × (within (pos (512 * rateOf khz)) (pos (4608 * rateOf khz)) (h .«pitch_l_q8») ≡ true) ⌝ }
     ensures { λ r. ⌜ voiceOf (take (20 * rateOf khz + 5 * rateOf khz * n) (now (buf .exit))) r
-        ≡ voiceBy (record { rate = rateOf khz; subframes = n }) «loss_cnt» «prev_signal_type» (now (exc .entry)) (now («out_buf» .entry)) (now (a .entry)) from h ⌝ }
+        ≡ voiceBy (record { rate = rateOf khz; subframes = n }) «loss_cnt» «prev_signal_type» edition (now (exc .entry)) (now («out_buf» .entry)) (now (a .entry)) from h ⌝ }
 {
     rewhitened(buf, out_buf, a, h, khz, n, d);
     let k = starting(loss_cnt, prev_signal_type, h);
     let harm = harm_gain(loss_cnt);
-    let noise = noise_gain(loss_cnt, prev_signal_type, a, d);
+    let noise = noise_gain(loss_cnt, prev_signal_type, edition, a, d);
     subframes(buf, exc, from, k, khz, n, harm, noise)
 }
 
@@ -477,6 +478,7 @@ fn conceal(
     a: [i16; 16],
     loss_cnt: i32,
     prev_signal_type: i32,
+    edition: i32,
     h: SilkPLCState,
     from: usize,
     khz: i32,
@@ -487,14 +489,15 @@ fn conceal(
     requires { ⌜ (from + 128 ≤ length (now exc)) × ((d ≡ 10) ⊎ (d ≡ 16)) × (d ≡ orderOf (rateOf khz)) × (d + 2 ≤ 2 * rateOf khz) × (8 ≤ rateOf khz) × (n ≤ 4)
         × (length (now «out_buf») ≡ 480) × (10 * rateOf khz ≤ 5 * rateOf khz * n) × (5 * rateOf khz * n ≤ 20 * rateOf khz) × (5 * rateOf khz * n ≤ length (now xq))
         × (within (pos (512 * rateOf khz)) (pos (4608 * rateOf khz)) (h .«pitch_l_q8») ≡ true) ⌝ }
-    ensures { λ r. ⌜ (r ≡ concealedBy (record { rate = rateOf khz; subframes = n }) (voiceBy (record { rate = rateOf khz; subframes = n }) «loss_cnt» «prev_signal_type» (now (exc .entry)) (now («out_buf» .entry)) a from h) memory a h)
-        × (now (xq .exit) ≡ map (played (laterGain h)) (drop 16 (signalBy (record { rate = rateOf khz; subframes = n }) (voiceBy (record { rate = rateOf khz; subframes = n }) «loss_cnt» «prev_signal_type» (now (exc .entry)) (now («out_buf» .entry)) a from h) memory a)) ++ drop (5 * rateOf khz * n) (now (xq .entry))) ⌝ }
+    ensures { λ r. ⌜ (r ≡ concealedBy (record { rate = rateOf khz; subframes = n }) (voiceBy (record { rate = rateOf khz; subframes = n }) «loss_cnt» «prev_signal_type» edition (now (exc .entry)) (now («out_buf» .entry)) a from h) memory a h)
+        × (now (xq .exit) ≡ map (played (laterGain h)) (drop 16 (signalBy (record { rate = rateOf khz; subframes = n }) (voiceBy (record { rate = rateOf khz; subframes = n }) «loss_cnt» «prev_signal_type» edition (now (exc .entry)) (now («out_buf» .entry)) a from h) memory a)) ++ drop (5 * rateOf khz * n) (now (xq .entry))) ⌝ }
 {
     let mut buf = no_history();
     let k = voice(
         &mut buf,
         loss_cnt,
         prev_signal_type,
+        edition,
         exc,
         out_buf,
         &a,
@@ -560,6 +563,7 @@ fn conceal_ready(
     let prev = h.prev_lpc_q12;
     let a = coefficients(s.first_frame_after_reset, prev, d);
     let from = place(&exc, h, khz, n);
+    let settings = s.settings;
     conceal(
         &exc,
         &out_buf,
@@ -567,6 +571,7 @@ fn conceal_ready(
         a,
         s.loss_cnt,
         s.prev_signal_type,
+        settings.edition,
         h,
         from,
         khz,
@@ -579,7 +584,7 @@ fn conceal_ready(
 // The state after a lost frame.
 fn lost_state(s: SilkDecoderState, r: Concealed) -> SilkDecoderState
     requires { ⌜ (leZ (pos 0) (s .«loss_cnt») ≡ true) × (eqℤ (s .«loss_cnt») (pos 2147483647) ≡ false) ⌝ }
-    ensures { λ t. ⌜ t ≡ build s (s .«prev_gain_q16») (s .«exc_q14») (r .memory) (s .«out_buf») (s .«lag_prev») (s .«prev_nlsf_q15») (s .«first_frame_after_reset») (s .«s_cng») (s .«loss_cnt» +ℤ pos 1) (s .«prev_signal_type») (r .plc) ⌝ }
+    ensures { λ t. ⌜ t ≡ withPlc (withLosses (withMemory s (r .memory)) (s .«loss_cnt» +ℤ pos 1)) (r .plc) ⌝ }
 {
     let memory = r.memory;
     let plc = r.plc;
@@ -624,12 +629,12 @@ pub fn plc_conceal(s: SilkDecoderState, c: SilkDecoderControl, xq: &mut [i16]) -
 }
 
 // A lost frame as a call: refused, it changes nothing.
-pub fn silk_plc_lost(s: SilkDecoderState, c: SilkDecoderControl, xq: &mut [i16]) -> PlcLostAnswer
+pub fn silk_plc_lost(s: SilkDecoderState, c: SilkDecoderControl, xq: &mut [i16]) -> Answer
     ensures { λ r. ⌜ (r ≡ plcLost s c (now (xq .entry))) × (now (xq .exit) ≡ plcLostOutput s c (now (xq .entry))) ⌝ }
 {
     let refusal = judge::plc_lost(s, xq.len());
     if refusal::number(refusal) != 0 {
-        return PlcLostAnswer {
+        return Answer {
             refusal,
             state: s,
             control: c,
@@ -638,7 +643,7 @@ pub fn silk_plc_lost(s: SilkDecoderState, c: SilkDecoderControl, xq: &mut [i16])
     let r = plc_conceal(s, c, xq);
     let state = r.state;
     let control = r.control;
-    PlcLostAnswer {
+    Answer {
         refusal,
         state,
         control,

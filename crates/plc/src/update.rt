@@ -1,11 +1,11 @@
 // What concealment keeps of a received frame, its reset, and where it draws noise from (plc.rs: silk_plc_reset, silk_plc_update, silk_plc_energy).
 // Inner: every function but silk_plc_received.
-use crate::PlcAnswer;
 use decoder::Params;
 use decoder::Signal;
 use decoder::SilkDecoderControl;
 use decoder::SilkDecoderState;
 use decoder::SilkPLCState;
+use decoder::StateAnswer;
 use decoder::is_voiced;
 use decoder::signal_number;
 use judge::tap_sum;
@@ -310,14 +310,14 @@ pub fn silk_plc_received(
     q: Params,
     c: SilkDecoderControl,
     rows: [[i16; 16]; 2],
-) -> PlcAnswer
+) -> StateAnswer
     ensures { λ r. ⌜ r ≡ plcReceived s q c rows ⌝ }
 {
     let refusal = judge::plc_received(s, q, c);
     if refusal::number(refusal) != 0 {
-        return PlcAnswer { refusal, state: s };
+        return StateAnswer { refusal, state: s };
     }
     let signal = q.signal;
     let state = plc_update(s, signal, c, rows);
-    PlcAnswer { refusal, state }
+    StateAnswer { refusal, state }
 }

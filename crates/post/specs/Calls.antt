@@ -1,9 +1,9 @@
--- What an exported call is lent, what it answers, and what it leaves.
+-- What an exported call answers, and what it leaves.
 use mathlib.Core.Bool.{Bool, cond}
-use mathlib.Core.List.{List}
 use lib.IntN.{ℤ, pos, negsuc}
 use Rattle.refusal.specs.Refusals.{refusalNumber, ifAccepted}
 use Rattle.refusal.specs.declared.Refusal.{Refusal}
+use Rattle.slices.specs.Slices.{Slices}
 
 -- -1 where a slice is too short, else document 01's number
 abbrev pub answer : Bool → Refusal → ℤ
@@ -12,19 +12,6 @@ answer short r = cond short (negsuc 0) (pos (refusalNumber r))
 -- what was lent where a slice is too short or the call is refused, else what the call makes of it
 abbrev pub left {ℓ} : {A : Type ℓ} → Bool → Refusal → A → A → A
 left short r new old = cond short old (ifAccepted r new old)
-
--- the slices of a call; one that it does not take is empty
-pub record Slices : Type 0 where
-  pub words : List ℤ
-  pub halves : List ℤ
-  pub frame : List ℤ
-  pub coefs : List ℤ
-  pub pulses : List ℤ
-  pub output : List ℤ
-
-abbrev pub slices : (words halves frame coefs pulses output : List ℤ) → Slices
-slices words halves frame coefs pulses output =
-    record { words = words; halves = halves; frame = frame; coefs = coefs; pulses = pulses; output = output }
 
 -- a call's answer, and its slices after it
 pub record Called : Type 0 where

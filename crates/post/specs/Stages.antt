@@ -1,22 +1,20 @@
 -- The exported functions: set-up, the whole frame and the stages, on what the slices hold.
 use Prim.Native.Nat.{ℕ}
 use mathlib.Core.Bool.{Bool}
-use mathlib.Core.List.{List}
 use lib.IntN.{ℤ}
 use lib.ListN.{length}
-use Rattle.decoder.specs.SetUp.{setUp}
-use Rattle.decoder.specs.declared.Frame.{Frame}
-use Rattle.decoder.specs.declared.SilkDecoderState.{SilkDecoderState}
-use Rattle.decoder.specs.declared.SilkDecoderControl.{SilkDecoderControl}
+use Rattle.decoder.specs.SetUp.{setUpWith}
+use Rattle.decoder.specs.declared.Settings.{Settings}
 use Rattle.glue.specs.Answer.{glueAnswer, glueOutput}
 use Rattle.cng.specs.Answer.{cngAnswer, cngOutput}
 use Rattle.plc.specs.Answer.{plcReceived, plcLost, plcLostOutput}
 use Rattle.decode_core.specs.Answer.{coreAnswer, coreOutput}
-use Rattle.decode_frame.specs.Call.{frameCall as wholeCall}
-use Rattle.decode_frame.specs.Answer.{frameAnswer, frameOutput}
-use Rattle.layout.specs.Layout.{shortState, stateIn, withWords, withHalves}
-use Rattle.layout.specs.Frame.{shortFrame, shortCall, frameIn, rateIn, subframesIn, paramsIn, controlIn, tapless, rowsIn, linesIn, withLags, withTaps}
-use Rattle.post.specs.Calls.{Slices, slices, Called, called}
+use Rattle.decode_frame.specs.Answer.{frameRefusal}
+use Rattle.layout.specs.Layout.{shortState, withWords, withHalves}
+use Rattle.layout.specs.Frame.{shortFrame, shortCall, frameIn, paramsIn, tapless, rowsIn, withLags}
+use Rattle.slices.specs.Slices.{Slices, slices, stateOf, controlOf, withState, withControl}
+use Rattle.slices.specs.Whole.{wholeCall, playedOn}
+use Rattle.post.specs.Calls.{Called, called}
 
 -- a slice is too short: one of a state's, of a state's and a frame's, or of these and the coefficients
 module _ (m : Slices) where
@@ -29,37 +27,17 @@ module _ (m : Slices) where
   abbrev pub callShort : Bool
   callShort = shortCall (length (m .words)) (length (m .halves)) (length (m .frame)) (length (m .coefs))
 
-  abbrev pub stateOf : SilkDecoderState
-  stateOf = stateIn (m .words) (m .halves)
-
-  abbrev pub controlOf : SilkDecoderControl
-  controlOf = controlIn (m .frame) (m .coefs)
-
-  -- the slices with a new state and new samples
-  abbrev pub withState : SilkDecoderState → List ℤ → Slices
-  withState s output = slices (withWords (m .words) s) (withHalves (m .halves) s) (m .frame) (m .coefs) (m .pulses) output
-
-  -- and with a new description: its lags and taps
-  abbrev pub withControl : SilkDecoderState → SilkDecoderControl → List ℤ → Slices
-  withControl s c output =
-      slices (withWords (m .words) s) (withHalves (m .halves) s) (withLags (m .frame) c) (withTaps (m .coefs) c) (m .pulses) output
-
--- a state for a rate and a count of subframes
-unfoldable pub setUpCall : ℤ → ℤ → Slices → Called
-setUpCall rate subframes m =
-    let a = setUp rate subframes in
+-- a state for a rate, a count of subframes and settings
+unfoldable pub setUpCall : ℤ → ℤ → Settings → Slices → Called
+setUpCall rate subframes v m =
+    let a = setUpWith rate subframes v in
     called (stateShort m) (a .refusal) (withState m (a .state) (m .output)) m
-
--- a whole frame, at the rate and the count of subframes that come with it
-unfoldable pub playedCall : Frame → Slices → Called
-playedCall f m =
-    let x = wholeCall (rateIn (m .frame)) (subframesIn (m .frame)) f (controlOf m) (rowsIn (m .coefs)) (linesIn (m .coefs)) (m .pulses) (m .output) in
-    let a = frameAnswer (stateOf m) x in
-    called (callShort m) (a .refusal) (withControl m (a .state) (a .control) (frameOutput (stateOf m) x)) m
 
 -- the frame in the slices, received or lost
 unfoldable pub frameCall : Slices → Called
-frameCall m = playedCall (frameIn (m .frame)) m
+frameCall m =
+    let f = frameIn (m .frame) in
+    called (callShort m) (frameRefusal (stateOf m) (wholeCall f m)) (playedOn f m) m
 
 -- the synthesis of a received frame
 unfoldable pub coreCall : Slices → Called

@@ -1,22 +1,15 @@
 // The functions that a Rust or C program links. A contract is one equation: the answer and the slices at exit are those of the call's definition.
 use cng::silk_cng;
 use decode_core::silk_decode_core;
-use decode_frame::lost_frame;
-use decode_frame::received_frame;
-use decoder::Frame;
-use decoder::Params;
+use decoder::Settings;
 use glue::silk_plc_glue_frames;
 use layout::frame::control_in;
-use layout::frame::frame_in;
 use layout::frame::keep_lags;
 use layout::frame::keep_taps;
-use layout::frame::lines_in;
 use layout::frame::params_in;
-use layout::frame::rate_in;
 use layout::frame::rows_in;
 use layout::frame::short_call;
 use layout::frame::short_frame;
-use layout::frame::subframes_in;
 use layout::frame::tapless;
 use layout::keep_state;
 use layout::short_state;
@@ -24,18 +17,38 @@ use layout::state_in;
 use plc::conceal::silk_plc_lost;
 use plc::update::silk_plc_received;
 use refusal::code;
+use slices::play_frame;
 ghost use mathlib.Core.Path.{_≡_};
-ghost use mathlib.Core.Bool.{false};
 ghost use mathlib.Core.List.{[]};
 ghost use lib.IntN.{pos};
 ghost use lib.ListN.{length};
 ghost use Rattle.shape.specs.Shape.{shape};
+ghost use Rattle.decoder.specs.Settings.{defaultSettings};
 ghost use Rattle.decoder.specs.Played.{playedLength};
-ghost use Rattle.decoder.specs.declared.Frame.the-variants.{Received, Lost};
-ghost use Rattle.layout.specs.Frame.{shortCall};
-ghost use Rattle.post.specs.Calls.{slices};
-ghost use Rattle.post.specs.Stages.{setUpCall, playedCall, frameCall, coreCall, plcReceivedCall, plcLostCall, glueCall, noiseCall};
+ghost use Rattle.slices.specs.Slices.{slices};
+ghost use Rattle.post.specs.Stages.{setUpCall, frameCall, coreCall, plcReceivedCall, plcLostCall, glueCall, noiseCall};
 
+fn set_up(
+    rate: i32,
+    subframes: i32,
+    settings: Settings,
+    words: &mut [i32],
+    halves: &mut [i16],
+) -> i32
+    ensures { λ r. ⌜ record { answer = r; after = slices (now (words .exit)) (now (halves .exit)) [] [] [] [] }
+        ≡ setUpCall rate subframes settings (slices (now (words .entry)) (now (halves .entry)) [] [] [] []) ⌝ }
+{
+    if short_state(words.len(), halves.len()) {
+        return -1;
+    }
+    let a = decoder::set_up_with(rate, subframes, settings);
+    let refusal = a.refusal;
+    let fresh = a.state;
+    keep_state(refusal, fresh, words, halves);
+    code(refusal)
+}
+
+// Set-up with the default settings.
 #[no_mangle]
 pub extern "C" fn post_set_up(
     rate: i32,
@@ -44,73 +57,26 @@ pub extern "C" fn post_set_up(
     halves: &mut [i16],
 ) -> i32
     ensures { λ r. ⌜ record { answer = r; after = slices (now (words .exit)) (now (halves .exit)) [] [] [] [] }
-        ≡ setUpCall rate subframes (slices (now (words .entry)) (now (halves .entry)) [] [] [] []) ⌝ }
+        ≡ setUpCall rate subframes defaultSettings (slices (now (words .entry)) (now (halves .entry)) [] [] [] []) ⌝ }
 {
-    if short_state(words.len(), halves.len()) {
-        return -1;
-    }
-    let a = decoder::set_up(rate, subframes);
-    let refusal = a.refusal;
-    let fresh = a.state;
-    keep_state(refusal, fresh, words, halves);
-    code(refusal)
+    let settings = decoder::default_settings();
+    set_up(rate, subframes, settings, words, halves)
 }
 
-// A received frame, whose slices are long enough.
-fn received(
-    q: Params,
+#[no_mangle]
+pub extern "C" fn post_set_up_with(
+    rate: i32,
+    subframes: i32,
+    squelch: i32,
+    edition: i32,
     words: &mut [i32],
     halves: &mut [i16],
-    frame: &mut [i32],
-    coefs: &mut [i16],
-    pulses: &[i16],
-    output: &mut [i16],
 ) -> i32
-    requires { ⌜ shortCall (length (now words)) (length (now halves)) (length (now frame)) (length (now coefs)) ≡ false ⌝ }
-    ensures { λ r. ⌜ record { answer = r; after = slices (now (words .exit)) (now (halves .exit)) (now (frame .exit)) (now (coefs .exit)) (now (pulses .entry)) (now (output .exit)) }
-        ≡ playedCall (Received q) (slices (now (words .entry)) (now (halves .entry)) (now (frame .entry)) (now (coefs .entry)) (now (pulses .entry)) (now (output .entry))) ⌝ }
+    ensures { λ r. ⌜ record { answer = r; after = slices (now (words .exit)) (now (halves .exit)) [] [] [] [] }
+        ≡ setUpCall rate subframes (record { squelch = squelch; edition = edition }) (slices (now (words .entry)) (now (halves .entry)) [] [] [] []) ⌝ }
 {
-    let s = state_in(words, halves);
-    let c = control_in(frame, coefs);
-    let rows = rows_in(coefs);
-    let lines = lines_in(coefs);
-    let rate = rate_in(frame);
-    let subframes = subframes_in(frame);
-    let a = received_frame(s, rate, subframes, q, c, rows, lines, pulses, output);
-    let refusal = a.refusal;
-    let played = a.state;
-    let played_control = a.control;
-    keep_state(refusal, played, words, halves);
-    keep_lags(refusal, played_control, frame);
-    keep_taps(refusal, played_control, coefs);
-    code(refusal)
-}
-
-// A lost frame, likewise.
-fn lost(
-    words: &mut [i32],
-    halves: &mut [i16],
-    frame: &mut [i32],
-    coefs: &mut [i16],
-    pulses: &[i16],
-    output: &mut [i16],
-) -> i32
-    requires { ⌜ shortCall (length (now words)) (length (now halves)) (length (now frame)) (length (now coefs)) ≡ false ⌝ }
-    ensures { λ r. ⌜ record { answer = r; after = slices (now (words .exit)) (now (halves .exit)) (now (frame .exit)) (now (coefs .exit)) (now (pulses .entry)) (now (output .exit)) }
-        ≡ playedCall Lost (slices (now (words .entry)) (now (halves .entry)) (now (frame .entry)) (now (coefs .entry)) (now (pulses .entry)) (now (output .entry))) ⌝ }
-{
-    let s = state_in(words, halves);
-    let c = control_in(frame, coefs);
-    let rate = rate_in(frame);
-    let subframes = subframes_in(frame);
-    let a = lost_frame(s, rate, subframes, c, output);
-    let refusal = a.refusal;
-    let lost = a.state;
-    let lost_control = a.control;
-    keep_state(refusal, lost, words, halves);
-    keep_lags(refusal, lost_control, frame);
-    keep_taps(refusal, lost_control, coefs);
-    code(refusal)
+    let settings = Settings { squelch, edition };
+    set_up(rate, subframes, settings, words, halves)
 }
 
 #[no_mangle]
@@ -128,11 +94,7 @@ pub extern "C" fn post_frame(
     if short_call(words.len(), halves.len(), frame.len(), coefs.len()) {
         return -1;
     }
-    let f = frame_in(frame);
-    let Frame::Received(q) = f else {
-        return lost(words, halves, frame, coefs, pulses, output);
-    };
-    received(q, words, halves, frame, coefs, pulses, output)
+    code(play_frame(words, halves, frame, coefs, pulses, output))
 }
 
 #[no_mangle]

@@ -1,2 +1,3 @@
 -- The laws that the proofs share.
 pub mod Ends
+pub mod Told

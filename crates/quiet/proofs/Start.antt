@@ -1,4 +1,4 @@
--- Every accepted state is one that a loss may find, and what the count of losses then comes to.
+-- Every accepted state is one that a loss may find, and after how many losses its filter is small.
 use Prim.Native.Nat.{ℕ, _≤_, zero-le}
 use mathlib.Core.Path.{_≡_, refl, sym, subst}
 use mathlib.Core.Bool.{Bool, true, false, cond}
@@ -9,7 +9,7 @@ use lib.Dec.{lit≤}
 use lib.IntN.{ℤ, pos, natAbs}
 use lib.ListN.{getD}
 use Rattle.word.specs.Int.{eqℤ}
-use Rattle.word.specs.Size.{sizeAt, sizes, Bounded}
+use Rattle.word.specs.Size.{sizeAt, sizes}
 use Rattle.word.proofs.Order.{eqℤ-true}
 use Rattle.word.proofs.Lists.{sizes-le}
 use Rattle.word.proofs.Sizes.{abs-le}
@@ -25,11 +25,11 @@ use Rattle.decoder.specs.declared.SilkDecoderState.{SilkDecoderState}
 use Rattle.decoder.proofs.Between.{Between}
 use Rattle.decoder.proofs.Bounds.{TapBounds, PlcBounds, bounds}
 use Rattle.plc.specs.Hold.{plcReset, plcReady}
-use Rattle.plc.specs.Conceal.{filterHeld, laterGain, concealed}
-use Rattle.quiet.specs.Bound.{quietBound, anySum, anyLosses, smallSum, smallLosses}
-use Rattle.quiet.proofs.Loss.{ready, Gained, Outer, Fits}
+use Rattle.plc.specs.Conceal.{filterHeld, laterGain}
+use Rattle.quiet.specs.Bound.{anySum, anyLosses, smallSum, smallLosses}
+use Rattle.quiet.proofs.Loss.{Gained, Outer, Fits}
 use Rattle.quiet.proofs.Wane.{wider, filter-le}
-use Rattle.quiet.proofs.Loudness.{After, Falls, start, quiet-after-ten}
+use Rattle.quiet.proofs.Loudness.{Falls}
 
 -- ---- an accepted state
 taps-of : (b : List ℤ) → TapBounds b → Outer b × (sizeAt b 2 ≤ 15565)
@@ -78,17 +78,10 @@ fits s a t =
 pub falls-any : Falls anySum anyLosses
 falls-any = record { late = lit≤ tt; small = sum-small }
 
-pub start-any : (p : Shape) (s : SilkDecoderState) (f : Fits p s) → After p (f .gain .0) anySum anyLosses 0 s
-start-any p s f =
-    start p (f .gain .0) anySum anyLosses falls-any s f refl
-    (le-trans (filter-le s (s .«s_plc») (lpcOrder p)) (omega (arith, sizes-le (s .«s_plc» .«prev_lpc_q12») (lpcOrder p) 32768 (f .coefs), order-le (p .rate))))
-
-pub quiet-after-1024 : (p : Shape) (G c : ℕ) (s : SilkDecoderState) → 1024 ≤ c → After p G anySum anyLosses c s → Bounded (quietBound G) (concealed p s (ready p s))
-quiet-after-1024 p G c s h a = quiet-after-ten p G anySum anyLosses falls-any c s (omega arith) a
+pub sum-any : (p : Shape) (s : SilkDecoderState) → Fits p s → sizes (filterHeld s (s .«s_plc»)) (lpcOrder p) ≤ anySum
+sum-any p s f =
+    le-trans (filter-le s (s .«s_plc») (lpcOrder p)) (omega (arith, sizes-le (s .«s_plc» .«prev_lpc_q12») (lpcOrder p) 32768 (f .coefs), order-le (p .rate)))
 
 -- ---- where the coefficients' sizes first add up to little
 pub falls-small : Falls smallSum smallLosses
 falls-small = record { late = lit≤ tt; small = sum-small-sooner }
-
-pub start-small : (p : Shape) (s : SilkDecoderState) (f : Fits p s) → sizes (filterHeld s (s .«s_plc»)) (lpcOrder p) ≤ smallSum → After p (f .gain .0) smallSum smallLosses 0 s
-start-small p s f h = start p (f .gain .0) smallSum smallLosses falls-small s f refl h

@@ -49,7 +49,7 @@ harm-any s = go (first (s .«loss_cnt»))
 abbrev Gain : ℕ → ℤ → Type 0
 Gain A z = (g : ℕ) × (z ≡ pos g) × (g ≤ A)
 
-noise-later : (p : Shape) (s : SilkDecoderState) (h : SilkPLCState) → Later s → Gain 29491 (noiseGain (s .«loss_cnt») (s .«prev_signal_type») (take (lpcOrder p) (coefficients p s h)))
+noise-later : (p : Shape) (s : SilkDecoderState) (h : SilkPLCState) → Later s → Gain 29491 (noiseGain (s .«loss_cnt») (s .«prev_signal_type») (s .settings .edition) (take (lpcOrder p) (coefficients p s h)))
 unfolding noiseGain
 noise-later p s h k = rw k (go (wasVoiced (s .«prev_signal_type»)))
   where
@@ -82,12 +82,12 @@ first-gain (pos n) h =
     )
     (n * 8 * 32440 / 65536 / 16384, refl, omega arith)
 
-noise-any : (p : Shape) (s : SilkDecoderState) (h : SilkPLCState) → Gain 32767 (noiseGain (s .«loss_cnt») (s .«prev_signal_type») (take (lpcOrder p) (coefficients p s h)))
+noise-any : (p : Shape) (s : SilkDecoderState) (h : SilkPLCState) → Gain 32767 (noiseGain (s .«loss_cnt») (s .«prev_signal_type») (s .settings .edition) (take (lpcOrder p) (coefficients p s h)))
 unfolding noiseGain
 noise-any p s h = go (wasVoiced (s .«prev_signal_type»)) (first (s .«loss_cnt»))
   where
     answer : ℤ
-    answer = inverseGain (stability (take (lpcOrder p) (coefficients p s h)))
+    answer = inverseGain (stability (s .settings .edition) (take (lpcOrder p) (coefficients p s h)))
 
     x : ℤ
     x = maxℤ (pos (2 ^ 22)) (minℤ (pos (2 ^ 27)) answer)
@@ -233,9 +233,9 @@ filter-le s h d = go (eqℤ (s .«first_frame_after_reset») (pos 0))
 module _ (p : Shape) (s : SilkDecoderState) (h : SilkPLCState) where
   tap-of : (j A B : ℕ) → natAbs (harmGain (s .«loss_cnt»)) ≤ A → sizeAt (h .«ltp_coef_q14») j ≤ B → sizeAt (voice p s h .taps) j ≤ times (nearer A) (p .subframes) B
   unfolding voice voiceBy
-  tap-of j A B hA hB = voices-tap p (s .«exc_q14») (noisePlace p s h) (harmGain (s .«loss_cnt»)) (noiseGain (s .«loss_cnt») (s .«prev_signal_type») (take (lpcOrder p) (coefficients p s h))) (p .subframes) _ j A B hA hB
+  tap-of j A B hA hB = voices-tap p (s .«exc_q14») (noisePlace p s h) (harmGain (s .«loss_cnt»)) (noiseGain (s .«loss_cnt») (s .«prev_signal_type») (s .settings .edition) (take (lpcOrder p) (coefficients p s h))) (p .subframes) _ j A B hA hB
 
-  scale-of : (A B : ℕ) → Gain A (noiseGain (s .«loss_cnt») (s .«prev_signal_type») (take (lpcOrder p) (coefficients p s h))) → A ≤ 32767 → B ≤ 32767 → Upto B (noiseScale (s .«loss_cnt») (s .«prev_signal_type») h)
+  scale-of : (A B : ℕ) → Gain A (noiseGain (s .«loss_cnt») (s .«prev_signal_type») (s .settings .edition) (take (lpcOrder p) (coefficients p s h))) → A ≤ 32767 → B ≤ 32767 → Upto B (noiseScale (s .«loss_cnt») (s .«prev_signal_type») h)
       → Upto (times (lower A) (p .subframes) B) (voice p s h .scale)
   unfolding voice voiceBy
   scale-of A B g hA hB k =

@@ -1,6 +1,8 @@
 -- Document 01: "The first that applies, by number, is returned".
 use mathlib.Core.Bool.{Bool, cond}
 use mathlib.Core.List.{List, [], _∷_}
+use lib.Dec.{leb}
+use Rattle.refusal.specs.Refusals.{refusalNumber, ifAccepted}
 use Rattle.refusal.specs.declared.Refusal.{Refusal}
 use Rattle.refusal.specs.declared.Refusal.the-variants.{Nothing}
 
@@ -20,3 +22,7 @@ firstOr (r ∷ rs) other = cond (r .applies) (r .refusal) (firstOr rs other)
 
 abbrev pub firstOf : List Row → Refusal
 firstOf rows = firstOr rows Nothing
+
+-- of two refusals the one with the smaller number, and the other where one is none
+unfoldable pub earlier : Refusal → Refusal → Refusal
+earlier r t = ifAccepted r t (ifAccepted t r (cond (leb (refusalNumber r) (refusalNumber t)) r t))

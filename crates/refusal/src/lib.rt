@@ -1,9 +1,10 @@
-// Why a call is turned down: document 01's rows 1 to 13.
+// Why a call is turned down: document 01's rows 1 to 13, and document 02's rows 14 to 23.
 // Inner: every function.
 ghost use mathlib.Core.Path.{_≡_};
 ghost use mathlib.Core.Bool.{cond};
 ghost use lib.IntN.{pos};
 ghost use Rattle.refusal.specs.Refusals.{refusalNumber, refusalWord, textOf};
+ghost use Rattle.refusal.specs.First.{earlier};
 
 pub enum Refusal {
     Nothing,
@@ -20,9 +21,19 @@ pub enum Refusal {
     Speaker,
     Length,
     Order,
+    Squelch,
+    Weights,
+    Channels,
+    Place,
+    Post,
+    Waiting,
+    Chain,
+    Record,
+    Edition,
+    Limit,
 }
 
-// Document 01's number, 0 where nothing is refused.
+// A row's number, 0 where nothing is refused.
 pub fn number(r: Refusal) -> u8
     ensures { λ n. ⌜ n ≡ refusalNumber r ⌝ }
 {
@@ -41,6 +52,16 @@ pub fn number(r: Refusal) -> u8
         Refusal::Speaker => 11,
         Refusal::Length => 12,
         Refusal::Order => 13,
+        Refusal::Squelch => 14,
+        Refusal::Weights => 15,
+        Refusal::Channels => 16,
+        Refusal::Place => 17,
+        Refusal::Post => 18,
+        Refusal::Waiting => 19,
+        Refusal::Chain => 20,
+        Refusal::Record => 21,
+        Refusal::Edition => 22,
+        Refusal::Limit => 23,
     }
 }
 
@@ -57,7 +78,7 @@ pub struct Text {
     pub len: usize,
 }
 
-// The words by number, empty at a number that no row has.
+// The words by number.
 const WORDS: [[u8; 8]; 24] = [
     *b"\0\0\0\0\0\0\0\0",
     *b"rate\0\0\0\0",
@@ -73,16 +94,16 @@ const WORDS: [[u8; 8]; 24] = [
     *b"speaker\0",
     *b"length\0\0",
     *b"order\0\0\0",
-    *b"\0\0\0\0\0\0\0\0",
-    *b"\0\0\0\0\0\0\0\0",
-    *b"\0\0\0\0\0\0\0\0",
-    *b"\0\0\0\0\0\0\0\0",
-    *b"\0\0\0\0\0\0\0\0",
-    *b"\0\0\0\0\0\0\0\0",
-    *b"\0\0\0\0\0\0\0\0",
-    *b"\0\0\0\0\0\0\0\0",
-    *b"\0\0\0\0\0\0\0\0",
-    *b"\0\0\0\0\0\0\0\0",
+    *b"squelch\0",
+    *b"weights\0",
+    *b"channels",
+    *b"place\0\0\0",
+    *b"post\0\0\0\0",
+    *b"waiting\0",
+    *b"chain\0\0\0",
+    *b"record\0\0",
+    *b"edition\0",
+    *b"limit\0\0\0",
 ];
 
 const LENGTHS: [usize; 24] = [
@@ -100,19 +121,19 @@ const LENGTHS: [usize; 24] = [
     7,
     6,
     5,
-    0,
-    0,
-    0,
-    0,
-    0,
-    0,
-    0,
-    0,
-    0,
-    0,
+    7,
+    7,
+    8,
+    5,
+    4,
+    7,
+    5,
+    6,
+    7,
+    5,
 ];
 
-// Document 01's word, empty where nothing is refused.
+// A row's word, empty where nothing is refused.
 pub fn word(r: Refusal) -> Text
     ensures { λ w. ⌜ w ≡ textOf (refusalWord r) ⌝ }
 {
@@ -129,4 +150,19 @@ pub fn first(applies: bool, refusal: Refusal, other: Refusal) -> Refusal
     ensures { λ r. ⌜ r ≡ cond applies refusal other ⌝ }
 {
     if applies { refusal } else { other }
+}
+
+// Of two refusals the one with the smaller number, and the other where one is none.
+pub fn earlier(r: Refusal, t: Refusal) -> Refusal
+    ensures { λ e. ⌜ e ≡ earlier r t ⌝ }
+{
+    let n = number(r);
+    let m = number(t);
+    if n == 0 {
+        return t;
+    }
+    if m == 0 {
+        return r;
+    }
+    if n <= m { r } else { t }
 }

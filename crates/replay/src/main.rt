@@ -38,6 +38,12 @@ const STABILITY: i32 = 8;
 
 const FILTER: i32 = 9;
 
+const COSINE: i32 = 10;
+
+const RISING: i32 = 11;
+
+const SET_UP_WITH: i32 = 12;
+
 const WORDS: i32 = 20;
 
 const HALVES: i32 = 21;
@@ -170,6 +176,24 @@ fn set_up(l: Lent, row: [i32; 64]) -> Called {
     let answer = post::post_set_up(
         row[1],
         row[2],
+        first32(&mut words, row[3]),
+        first16(&mut halves, row[4]),
+    );
+    let mut left = l;
+    left.words = words;
+    left.halves = halves;
+    Called { answer, left }
+}
+
+// The squelch and the edition stand behind the two slices that it is lent.
+fn set_up_with(l: Lent, row: [i32; 64]) -> Called {
+    let mut words = l.words;
+    let mut halves = l.halves;
+    let answer = post::post_set_up_with(
+        row[1],
+        row[2],
+        row[5],
+        row[6],
         first32(&mut words, row[3]),
         first16(&mut halves, row[4]),
     );
@@ -314,6 +338,7 @@ fn stability(l: Lent, row: [i32; 64]) -> Called {
     let answer = post_filters::post_stability(
         front16(&coefficients, row[10]),
         order,
+        row[2],
         first32(&mut result, row[11]),
     );
     let mut left = l;
@@ -329,9 +354,33 @@ fn filter(l: Lent, row: [i32; 64]) -> Called {
         first16(&mut coefficients, row[10]),
         front16(&lines, row[7]),
         order,
+        row[2],
     );
     let mut left = l;
     left.coefficients = coefficients;
+    Called { answer, left }
+}
+
+fn cosine(l: Lent, row: [i32; 64]) -> Called {
+    let mut result = l.result;
+    let place = size(row[1]);
+    let answer = post_filters::post_cosine(place, first32(&mut result, row[11]));
+    let mut left = l;
+    left.result = result;
+    Called { answer, left }
+}
+
+fn rising(l: Lent, row: [i32; 64]) -> Called {
+    let lines = l.lines;
+    let mut result = l.result;
+    let order = size(row[1]);
+    let answer = post_filters::post_rising(
+        front16(&lines, row[7]),
+        order,
+        first32(&mut result, row[11]),
+    );
+    let mut left = l;
+    left.result = result;
     Called { answer, left }
 }
 
@@ -352,6 +401,9 @@ fn made(l: Lent, row: [i32; 64]) -> Called {
         PLAYED => played(l, row),
         STABILITY => stability(l, row),
         FILTER => filter(l, row),
+        COSINE => cosine(l, row),
+        RISING => rising(l, row),
+        SET_UP_WITH => set_up_with(l, row),
         _ => unknown(l),
     }
 }

@@ -2,12 +2,14 @@
 
 use decoder::Frame;
 use decoder::Params;
+use decoder::Settings;
 use decoder::Signal;
 use decoder::SilkCNGState;
 use decoder::SilkDecoderControl;
 use decoder::SilkDecoderState;
 use decoder::SilkPLCState;
 use decoder::set_up;
+use decoder::set_up_with;
 use decoder::signal_of;
 use libc::STDIN_FILENO;
 use libc::STDOUT_FILENO;
@@ -108,6 +110,10 @@ const CNG_LINE_9: i32 = 43;
 const CNG_LINE_10: i32 = 44;
 
 const CNG_LINE_15: i32 = 45;
+
+const SQUELCH: i32 = 46;
+
+const EDITION: i32 = 47;
 
 const LTP_SCALE: i32 = 50;
 
@@ -309,6 +315,16 @@ fn cng_changed(old: SilkCNGState, field: i32, value: i32) -> SilkCNGState {
     new
 }
 
+fn settings_changed(old: Settings, field: i32, value: i32) -> Settings {
+    let mut new = old;
+    match field {
+        SQUELCH => new.squelch = value,
+        EDITION => new.edition = value,
+        _ => {}
+    }
+    new
+}
+
 fn control_changed(old: SilkDecoderControl, field: i32, value: i32) -> SilkDecoderControl {
     let mut new = old;
     match field {
@@ -409,6 +425,9 @@ fn changed(x: Case, field: i32, value: i32) -> Case {
     let old_cng = old.s_cng;
     let cng = cng_changed(old_cng, field, value);
     state.s_cng = cng;
+    let old_settings = old.settings;
+    let settings = settings_changed(old_settings, field, value);
+    state.settings = settings;
     let old_control = x.control;
     let control = control_changed(old_control, field, value);
     new.state = state;
@@ -530,8 +549,10 @@ fn played(khz: i32, nb_subfr: i32, lent: usize) -> i32 {
     in_place(decoder::played(khz, nb_subfr, &output[..lent]))
 }
 
-fn made(khz: i32, nb_subfr: i32) -> i32 {
-    let made = set_up(khz, nb_subfr);
+// Set-up with the settings of a state.
+fn made(khz: i32, nb_subfr: i32, s: SilkDecoderState) -> i32 {
+    let settings = s.settings;
+    let made = set_up_with(khz, nb_subfr, settings);
     let refusal = made.refusal;
     number(refusal) as i32
 }
@@ -568,8 +589,9 @@ fn judged(who: i32, khz: i32, nb_subfr: i32, x: Case) -> i32 {
 }
 
 fn answer(who: i32, khz: i32, nb_subfr: i32, x: Case) -> i32 {
+    let state = x.state;
     match who {
-        SET_UP => made(khz, nb_subfr),
+        SET_UP => made(khz, nb_subfr, state),
         PLAYED => played(khz, nb_subfr, lent(x.output)),
         _ => judged(who, khz, nb_subfr, x),
     }

@@ -1,4 +1,4 @@
-// Tells of each line of coefficients on standard input whether its filter is stable, or why not.
+// Tells of each line of standard input, an edition and coefficients, whether the filter is stable under it, or why not.
 use coefficients::Entry;
 use coefficients::blank;
 use coefficients::ended;
@@ -7,7 +7,8 @@ use libc::STDIN_FILENO;
 use libc::STDOUT_FILENO;
 use refusal::number;
 use sentence::sentence_of;
-use stability::silk_lpc_inverse_pred_gain;
+use stability::silk_lpc_inverse_pred_gain_under;
+use word::wide16;
 ghost use Prim.Native.Nat.{_≤_};
 
 fn at_most_64(n: usize) -> usize
@@ -19,15 +20,22 @@ fn at_most_64(n: usize) -> usize
 fn bad_line() {
     io::write_all(
         STDOUT_FILENO,
-        b"bad line: it is to have one to sixteen whole numbers of sixteen bits\n",
+        b"bad line: it is to have an edition, 6716 or 8251, and one to sixteen whole numbers of sixteen bits\n",
     );
+}
+
+// The coefficients of a line of so many numbers: all but the edition.
+fn all_but_one(count: usize) -> usize {
+    if count == 0 { 0 } else { count - 1 }
 }
 
 // The sentence of a whole line, or a message.
 fn tell(e: Entry) {
     let last = ended(e);
     let a = last.a;
-    let t = silk_lpc_inverse_pred_gain(&a, last.count);
+    let edition = wide16(a[0]);
+    let order = all_but_one(last.count);
+    let t = silk_lpc_inverse_pred_gain_under(&a[1..], order, edition);
     let refusal = t.refusal;
     let answer = t.answer;
     if last.bad | (number(refusal) != 0) {

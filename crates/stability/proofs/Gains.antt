@@ -18,9 +18,10 @@ use Rattle.word.proofs.Parts.{eq-parts, sub-parts-ℤ}
 use Rattle.word.proofs.Sizes.{abs-fits, fits-abs}
 use Rattle.word.proofs.Words.{wrap-id, wrap-fits}
 use Rattle.macros.specs.Fixed.{smmul}
-use Rattle.stability.specs.Stability.{Edition, rfc8251, reflection, rcMult1, nextGain, nextCoefficients, goesOn, step, andThen, steps, total, aLimit, stabilityBy, stability, inverseGain}
+use Rattle.stability.specs.Stability.{reflection, rcMult1, nextGain, nextCoefficients, goesOn, step, steps, total, aLimit, stabilityBy, stability, inverseGain}
 use Rattle.stability.specs.declared.Stability.{Stability}
 use Rattle.stability.specs.declared.Stability.the-variants.{Stable, Sum, Coefficient, Gain, Overflow}
+use Rattle.stability.proofs.Turns.{then-holds}
 
 -- z is a number from 0 to B
 abbrev UpTo : ℕ → ℤ → Type 0
@@ -78,26 +79,18 @@ step-ranged limit a g k u = go (ltb limit (natAbs a)) (ltZ (nextGain (reflection
         let l : ltb (v .0) 107374 ≡ false = rw (v .1) at e in
         (v .0, v .1, ltb-false (v .0) 107374 l, v .2)
 
-then-ranged : (s : Stability) (f : ℤ → Stability) → Ranged s → ((x : ℤ) → UpTo (2 ^ 30) x → Ranged (f x)) → Ranged (andThen s f)
-unfolding andThen
-then-ranged (Stable g) f h k = k g (h .0, h .1, h .3)
-then-ranged Sum f h k = tt
-then-ranged (Coefficient j) f h k = tt
-then-ranged (Gain j) f h k = tt
-then-ranged (Overflow j) f h k = tt
-
-steps-ranged : (limit : ℕ) (e : Edition) (a : List ℤ) (g : ℤ) (k : ℕ) → UpTo (2 ^ 30) g → Ranged (steps limit e a g k)
+steps-ranged : (limit : ℕ) (e : ℤ) (a : List ℤ) (g : ℤ) (k : ℕ) → UpTo (2 ^ 30) g → Ranged (steps limit e a g k)
 unfolding steps
 steps-ranged limit e a g zero u = step-ranged limit (getD a 0 (pos 0)) g 0 u
 steps-ranged limit e a g (suc k) u =
-    then-ranged (step limit (getD a (suc k) (pos 0)) g (suc k)) _ (step-ranged limit (getD a (suc k) (pos 0)) g (suc k) u)
-    (λ x v. go (goesOn e (nextCoefficients a (suc k))) x (steps-ranged limit e (map wrap32 (nextCoefficients a (suc k))) x k v))
+    then-holds Ranged (step limit (getD a (suc k) (pos 0)) g (suc k)) _ (step-ranged limit (getD a (suc k) (pos 0)) g (suc k) u)
+    (λ x v. go (goesOn e (nextCoefficients a (suc k))) x (steps-ranged limit e (map wrap32 (nextCoefficients a (suc k))) x k (v .0, v .1, v .3)))
   where
     go : (b : Bool) (x : ℤ) → Ranged (steps limit e (map wrap32 (nextCoefficients a (suc k))) x k) → Ranged (cond b (steps limit e (map wrap32 (nextCoefficients a (suc k))) x k) (Overflow (suc k)))
     go true x h = h
     go false x h = tt
 
-whole-ranged : (limit : ℕ) (e : Edition) (a : List ℤ) → Ranged (stabilityBy limit e a)
+whole-ranged : (limit : ℕ) (e : ℤ) (a : List ℤ) → Ranged (stabilityBy limit e a)
 unfolding stabilityBy
 whole-ranged limit e a = go (leZ (pos 4096) (total a (length a))) _ (steps-ranged limit e _ (pos (2 ^ 30)) (length a - 1) (2 ^ 30, refl, le-refl (2 ^ 30)))
   where
@@ -114,14 +107,14 @@ number (Gain k) h = (0, refl, omega arith, inl refl)
 number (Overflow k) h = (0, refl, omega arith, inl refl)
 
 -- the inverse gain is 0, or from 107,374 to 2 ^ 30
-pub inverse-gain-by : (limit : ℕ) (e : Edition) (a : List ℤ) → (n : ℕ) × (inverseGain (stabilityBy limit e a) ≡ pos n) × (n ≤ 2 ^ 30) × ((n ≡ 0) ⊎ (107374 ≤ n))
+pub inverse-gain-by : (limit : ℕ) (e : ℤ) (a : List ℤ) → (n : ℕ) × (inverseGain (stabilityBy limit e a) ≡ pos n) × (n ≤ 2 ^ 30) × ((n ≡ 0) ⊎ (107374 ≤ n))
 inverse-gain-by limit e a = number (stabilityBy limit e a) (whole-ranged limit e a)
 
-pub inverse-gain : (a : List ℤ) → (n : ℕ) × (inverseGain (stability a) ≡ pos n) × (n ≤ 2 ^ 30) × ((n ≡ 0) ⊎ (107374 ≤ n))
+pub inverse-gain : (e : ℤ) (a : List ℤ) → (n : ℕ) × (inverseGain (stability e a) ≡ pos n) × (n ≤ 2 ^ 30) × ((n ≡ 0) ⊎ (107374 ≤ n))
 unfolding stability
-inverse-gain a = inverse-gain-by aLimit rfc8251 a
+inverse-gain e a = inverse-gain-by aLimit e a
 
-pub inverseGain-fits : (a : List ℤ) → SFits w32 (inverseGain (stability a))
-inverseGain-fits a =
-    let g = inverse-gain a in
+pub inverseGain-fits : (e : ℤ) (a : List ℤ) → SFits w32 (inverseGain (stability e a))
+inverseGain-fits e a =
+    let g = inverse-gain e a in
     rw (g .1) (abs-fits (pos (g .0)) (omega (arith, g .2)))

@@ -10,10 +10,11 @@ use lib.IntN.{ℤ, pos, natAbs}
 use lib.ListN.{getD, length}
 use lib.Signed.{leZ, ltZ}
 use Rattle.word.specs.Int.{wrap32}
-use Rattle.stability.specs.Stability.{Edition, reflection, nextGain, nextCoefficients, goesOn, step, andThen, steps, total, stabilityBy}
+use Rattle.stability.specs.Stability.{reflection, nextGain, nextCoefficients, goesOn, step, andThen, steps, total, stabilityBy}
 use Rattle.stability.specs.Limit.{Within, SameAnswer}
 use Rattle.stability.specs.declared.Stability.{Stability}
 use Rattle.stability.specs.declared.Stability.the-variants.{Stable, Sum, Coefficient, Gain, Overflow}
+use Rattle.stability.proofs.Turns.{then-same, either-same}
 
 module _ (low high : ℕ) (h : low ≤ high) where
   same-step : (a g : ℤ) (k : ℕ) → Within (step low a g k) → step high a g k ≡ step low a g k
@@ -35,30 +36,14 @@ module _ (low high : ℕ) (h : low ≤ high) where
   first-within (Gain j) f n = n
   first-within (Overflow j) f n = n
 
-  same-steps : (e : Edition) (a : List ℤ) (g : ℤ) (k : ℕ) → Within (steps low e a g k) → steps high e a g k ≡ steps low e a g k
-  unfolding steps andThen
+  same-steps : (e : ℤ) (a : List ℤ) (g : ℤ) (k : ℕ) → Within (steps low e a g k) → steps high e a g k ≡ steps low e a g k
+  unfolding steps
   same-steps e a g zero n = same-step (getD a 0 (pos 0)) g 0 n
   same-steps e a g (suc k) n =
       ap (λ (s : Stability). andThen s (λ x. cond (goesOn e (nextCoefficients a (suc k))) (steps high e (map wrap32 (nextCoefficients a (suc k))) x k) (Overflow (suc k)))) (same-step (getD a (suc k) (pos 0)) g (suc k) (first-within (step low (getD a (suc k) (pos 0)) g (suc k)) _ n))
-      ∙ go (step low (getD a (suc k) (pos 0)) g (suc k)) (goesOn e (nextCoefficients a (suc k))) (λ x. same-steps e (map wrap32 (nextCoefficients a (suc k))) x k) n
-    where
-      next : List ℤ
-      next = map wrap32 (nextCoefficients a (suc k))
-
-      go : (s : Stability) (b : Bool) → ((x : ℤ) → Within (steps low e next x k) → steps high e next x k ≡ steps low e next x k)
-          → Within (andThen s (λ x. cond b (steps low e next x k) (Overflow (suc k))))
-          → andThen s (λ x. cond b (steps high e next x k) (Overflow (suc k))) ≡ andThen s (λ x. cond b (steps low e next x k) (Overflow (suc k)))
-      go (Stable x) true h n = h x n
-      go (Stable x) false h n = refl
-      go Sum b h n = refl
-      go (Coefficient j) b h n = refl
-      go (Gain j) b h n = refl
-      go (Overflow j) b h n = refl
+      ∙ then-same Within (step low (getD a (suc k) (pos 0)) g (suc k)) _ _ (λ x. either-same Within (goesOn e (nextCoefficients a (suc k))) _ _ _ _ (same-steps e (map wrap32 (nextCoefficients a (suc k))) x k) (λ p. refl)) n
 
 pub same-answer : SameAnswer
 unfolding stabilityBy
-same-answer low high h e a = go (leZ (pos 4096) (total a (length a))) _ _ (same-steps low high h e _ (pos (2 ^ 30)) (length a - 1))
-  where
-    go : (b : Bool) (s t : Stability) → (Within t → s ≡ t) → Within (cond b Sum t) → cond b Sum s ≡ cond b Sum t
-    go true s t h n = refl
-    go false s t h n = h n
+same-answer low high h e a =
+    either-same Within (leZ (pos 4096) (total a (length a))) _ _ _ _ (λ p. refl) (same-steps low high h e _ (pos (2 ^ 30)) (length a - 1))

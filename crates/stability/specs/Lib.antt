@@ -1,3 +1,4 @@
 -- The definitions that the contracts cite.
 pub mod Stability
 pub mod Limit
+pub mod Editions

@@ -1,6 +1,6 @@
 -- The stability test of a short-term filter (document 01, "A lost frame"; RFC 6716, 4.2.7.5.8; lpc_analysis.rs).
 use Prim.Native.Nat.{ℕ, zero, suc, _+_, _-_, _^_}
-use mathlib.Core.Bool.{Bool, true, cond, _&&_, _||_}
+use mathlib.Core.Bool.{Bool, true, cond, not, _&&_, _||_}
 use mathlib.Core.List.{List, [], _∷_, map}
 use lib.Dec.{ltb}
 use lib.IntN.{ℤ, pos, natAbs, negℤ, _+ℤ_, _-ℤ_, _*ℤ_}
@@ -10,7 +10,11 @@ use Rattle.word.specs.Int.{eqℤ, wrap32}
 use Rattle.word.specs.Tabulate.{tabulate}
 use Rattle.macros.specs.Fixed.{smmul, clz32, rshiftRound64}
 use Rattle.macros.specs.Quotient.{inverse32VarQ}
-use Rattle.refusal.specs.declared.Refusal.the-variants.{Nothing, Order}
+use Rattle.edition.specs.Edition.{older, newer, isEdition}
+use Rattle.refusal.specs.First.{_gives_, firstOf}
+use Rattle.refusal.specs.Refusals.{ifAccepted}
+use Rattle.refusal.specs.declared.Refusal.{Refusal}
+use Rattle.refusal.specs.declared.Refusal.the-variants.{Order, Edition}
 use Rattle.stability.specs.declared.Stability.{Stability}
 use Rattle.stability.specs.declared.Stability.the-variants.{Stable, Sum, Coefficient, Gain, Overflow}
 use Rattle.stability.specs.declared.Tested.{Tested}
@@ -30,11 +34,6 @@ answerValue Sum = pos 0
 answerValue (Coefficient k) = pos k
 answerValue (Gain k) = pos k
 answerValue (Overflow k) = pos k
-
--- what a step beyond 32 bits does: RFC 6716 as first published keeps the low 32 and goes on, RFC 8251 ends the test
-pub data Edition : Type 0 where
-  rfc6716 : Edition
-  rfc8251 : Edition
 
 -- the largest size of a step's coefficient (Q24; RFC 6716, 4.2.7.5.8)
 unfoldable pub aLimit : ℕ
@@ -88,10 +87,9 @@ unfoldable pub allFit : List ℤ → Bool
 allFit [] = true
 allFit (x ∷ xs) = fits32 x && allFit xs
 
--- the test goes on with the coefficients after a step
-unfoldable pub goesOn : Edition → List ℤ → Bool
-goesOn rfc6716 xs = true
-goesOn rfc8251 xs = allFit xs
+-- the test goes on with the coefficients after a step if all are of 32 bits; the older edition goes on with the low 32 of any
+unfoldable pub goesOn : ℤ → List ℤ → Bool
+goesOn e xs = eqℤ e older || allFit xs
 
 -- the two tests of a step at place k: its coefficient's size, then the gain after it
 unfoldable pub step : ℕ → ℤ → ℤ → ℕ → Stability
@@ -108,7 +106,7 @@ andThen (Gain k) f = Gain k
 andThen (Overflow k) f = Overflow k
 
 -- the steps at the places k to 0, from coefficients a (Q24) and gain g
-unfoldable pub steps : ℕ → Edition → List ℤ → ℤ → ℕ → Stability
+unfoldable pub steps : ℕ → ℤ → List ℤ → ℤ → ℕ → Stability
 steps limit e a g zero = step limit (getD a 0 (pos 0)) g 0
 steps limit e a g (suc k) =
     andThen (step limit (getD a (suc k) (pos 0)) g (suc k))
@@ -120,14 +118,14 @@ total a zero = pos 0
 total a (suc n) = total a n +ℤ getD a n (pos 0)
 
 -- the whole test of coefficients a (Q12)
-unfoldable pub stabilityBy : ℕ → Edition → List ℤ → Stability
+unfoldable pub stabilityBy : ℕ → ℤ → List ℤ → Stability
 stabilityBy limit e a =
     cond (leZ (pos 4096) (total a (length a))) Sum
     (steps limit e (map (λ x. x *ℤ pos (2 ^ 12)) a) (pos (2 ^ 30)) (length a - 1))
 
--- the test with RFC 6716's limit and RFC 8251's end
-unfoldable pub stability : List ℤ → Stability
-stability a = stabilityBy aLimit rfc8251 a
+-- the test with RFC 6716's limit, under an edition
+unfoldable pub stability : ℤ → List ℤ → Stability
+stability e a = stabilityBy aLimit e a
 
 -- the inverse gain as a number, 0 if there is none
 unfoldable pub inverseGain : Stability → ℤ
@@ -141,8 +139,16 @@ inverseGain (Overflow k) = pos 0
 abbrev pub orderRefused : ℕ → ℕ → Bool
 orderRefused n d = ltb d 1 || ltb 16 d || ltb n d
 
--- the stability test as a call, of the first d coefficients; refused, its answer is a gain of 0, which no filter has
-unfoldable pub tested : List ℤ → ℕ → Tested
-tested a d =
-    cond (orderRefused (length a) d) (record { refusal = Order; answer = Stable (pos 0) })
-    (record { refusal = Nothing; answer = stability (take d a) })
+-- why the test of the first d of n coefficients under an edition is refused: row 13, then row 22
+unfoldable pub testRefusal : ℕ → ℕ → ℤ → Refusal
+testRefusal n d e = firstOf ((orderRefused n d gives Order) ∷ (not (isEdition e) gives Edition) ∷ [])
+
+-- the stability test as a call under an edition; refused, its answer is a gain of 0, which no filter has
+unfoldable pub testedUnder : List ℤ → ℕ → ℤ → Tested
+testedUnder a d e =
+    let refusal = testRefusal (length a) d e in
+    record { refusal = refusal; answer = ifAccepted refusal (stability e (take d a)) (Stable (pos 0)) }
+
+-- where no edition is named
+abbrev pub tested : List ℤ → ℕ → Tested
+tested a d = testedUnder a d newer

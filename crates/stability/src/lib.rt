@@ -1,5 +1,8 @@
 // The stability test of a short-term filter (lpc_analysis.rs).
-// Inner: every function but silk_lpc_inverse_pred_gain and same_answer.
+// Inner: every function but silk_lpc_inverse_pred_gain, silk_lpc_inverse_pred_gain_under, same_answer, editions_alike and older_fits.
+use edition::NEWER;
+use edition::OLDER;
+use edition::is_edition;
 use macros::silk_clz32;
 use macros::silk_inverse32_varq;
 use macros::silk_rshift_round64;
@@ -15,13 +18,16 @@ use word::sub32;
 use word::wide;
 use word::wide16;
 ghost use mathlib.Core.Path.{_≡_};
+ghost use mathlib.Core.Bool.{_||_};
 ghost use mathlib.Core.List.{_++_, map};
 ghost use Prim.Native.Nat.{_-_, _≤_, _<_, _^_};
 ghost use lib.IntN.{pos, _*ℤ_};
 ghost use lib.ListN.{length, take, drop, replicate};
-ghost use Rattle.word.specs.Int.{wrap32};
-ghost use Rattle.stability.specs.Stability.{aLimit, rfc8251, reflection, rcMult1, nextGain, bitLength, mulQ, rcMult2, stepDown, stepped, nextCoefficients, fits32, allFit, step, steps, total, stability, inverseGain, tested, answerNumber, answerValue};
+ghost use Rattle.word.specs.Int.{eqℤ, wrap32};
+ghost use Rattle.edition.specs.Edition.{older};
+ghost use Rattle.stability.specs.Stability.{aLimit, reflection, rcMult1, nextGain, bitLength, mulQ, rcMult2, stepDown, stepped, nextCoefficients, fits32, allFit, step, steps, total, stability, inverseGain, testRefusal, testedUnder, tested, answerNumber, answerValue};
 ghost use Rattle.stability.specs.Limit.{SameAnswer};
+ghost use Rattle.stability.specs.Editions.{EditionsAlike, OlderFits};
 
 const A_LIMIT: i32 = 16773022;
 
@@ -159,10 +165,17 @@ fn next_coefficients(a: &mut [i32], k: usize) -> bool
     step_all(rc, rc_mult2(m, q), q, a, k)
 }
 
+// Whether the test goes on after a step, whose coefficients all have 32 bits or not.
+fn goes_on(edition: i32, fits: bool) -> bool
+    ensures { λ r. ⌜ r ≡ (eqℤ edition older || fits) ⌝ }
+{
+    (edition == OLDER) | fits
+}
+
 // The steps from the last coefficient (Q24) to the first.
-fn lpc_inverse_pred_gain_qa(a0: [i32; 16], order: usize) -> Stability
+fn lpc_inverse_pred_gain_qa(a0: [i32; 16], order: usize, edition: i32) -> Stability
     requires { ⌜ (1 ≤ order) × (order ≤ 16) ⌝ }
-    ensures { λ r. ⌜ r ≡ steps aLimit rfc8251 a0 (pos (2 ^ 30)) (order - 1) ⌝ }
+    ensures { λ r. ⌜ r ≡ steps aLimit edition a0 (pos (2 ^ 30)) (order - 1) ⌝ }
 {
     let mut a = a0;
     let mut gain = 1073741824;
@@ -173,7 +186,8 @@ fn lpc_inverse_pred_gain_qa(a0: [i32; 16], order: usize) -> Stability
             return s;
         }
         gain = answer_value(s);
-        if !next_coefficients(&mut a, k) {
+        let fits = next_coefficients(&mut a, k);
+        if !goes_on(edition, fits) {
             return Stability::Overflow(k as u8);
         }
         k -= 1;
@@ -212,22 +226,22 @@ fn in_qa(a: &[i16], order: usize) -> [i32; 16]
 }
 
 // The test of the first order coefficients, for callers whose order is in range.
-pub fn stable_or_why(a: &[i16], order: usize) -> Stability
+pub fn stable_or_why(a: &[i16], order: usize, edition: i32) -> Stability
     requires { ⌜ (1 ≤ order) × (order ≤ 16) × (order ≤ length (now a)) ⌝ }
-    ensures { λ r. ⌜ r ≡ stability (take order (now (a .entry))) ⌝ }
+    ensures { λ r. ⌜ r ≡ stability edition (take order (now (a .entry))) ⌝ }
 {
     if dc_resp(a, order) >= 4096 {
         return Stability::Sum;
     }
-    lpc_inverse_pred_gain_qa(in_qa(a, order), order)
+    lpc_inverse_pred_gain_qa(in_qa(a, order), order, edition)
 }
 
 // Its inverse gain alone, 0 if there is none.
-pub fn inverse_pred_gain(a: &[i16], order: usize) -> i32
+pub fn inverse_pred_gain(a: &[i16], order: usize, edition: i32) -> i32
     requires { ⌜ (1 ≤ order) × (order ≤ 16) × (order ≤ length (now a)) ⌝ }
-    ensures { λ r. ⌜ r ≡ inverseGain (stability (take order (now (a .entry)))) ⌝ }
+    ensures { λ r. ⌜ r ≡ inverseGain (stability edition (take order (now (a .entry)))) ⌝ }
 {
-    let s = stable_or_why(a, order);
+    let s = stable_or_why(a, order, edition);
     if answer_number(s) != 0 {
         return 0;
     }
@@ -239,18 +253,47 @@ pub fn same_answer()
     ensures { λ _. ⌜ SameAnswer ⌝ }
 {}
 
-// The stability test as a call.
-pub fn silk_lpc_inverse_pred_gain(a_q12: &[i16], order: usize) -> Tested
-    ensures { λ r. ⌜ r ≡ tested (now («a_q12» .entry)) order ⌝ }
+// If no step leaves 32 bits, both editions answer alike.
+pub fn editions_alike()
+    ensures { λ _. ⌜ EditionsAlike ⌝ }
+{}
+
+// The older edition never answers that a step left 32 bits.
+pub fn older_fits()
+    ensures { λ _. ⌜ OlderFits ⌝ }
+{}
+
+fn refusal_of(n: usize, order: usize, edition: i32) -> Refusal
+    ensures { λ r. ⌜ r ≡ testRefusal n order edition ⌝ }
 {
-    if order < 1 || order > 16 || order > a_q12.len() {
+    let other = refusal::first(!is_edition(edition), Refusal::Edition, Refusal::Nothing);
+    refusal::first(
+        (order < 1) | (order > 16) | (n < order),
+        Refusal::Order,
+        other,
+    )
+}
+
+// The stability test as a call under an edition.
+pub fn silk_lpc_inverse_pred_gain_under(a_q12: &[i16], order: usize, edition: i32) -> Tested
+    ensures { λ r. ⌜ r ≡ testedUnder (now («a_q12» .entry)) order edition ⌝ }
+{
+    let refusal = refusal_of(a_q12.len(), order, edition);
+    if refusal::number(refusal) != 0 {
         return Tested {
-            refusal: Refusal::Order,
+            refusal,
             answer: Stability::Stable(0),
         };
     }
     Tested {
-        refusal: Refusal::Nothing,
-        answer: stable_or_why(a_q12, order),
+        refusal,
+        answer: stable_or_why(a_q12, order, edition),
     }
+}
+
+// The same where no edition is named.
+pub fn silk_lpc_inverse_pred_gain(a_q12: &[i16], order: usize) -> Tested
+    ensures { λ r. ⌜ r ≡ tested (now («a_q12» .entry)) order ⌝ }
+{
+    silk_lpc_inverse_pred_gain_under(a_q12, order, NEWER)
 }

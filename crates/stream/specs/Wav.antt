@@ -3,7 +3,7 @@ use Prim.Native.Nat.{ℕ, _+_, _*_}
 use mathlib.Core.List.{List, _++_}
 use lib.IntN.{pos}
 use Rattle.refusal.specs.Letters.{letters}
-use Rattle.stream.specs.Bytes.{bytesOf}
+use Rattle.le.specs.Bytes.{bytesOf}
 
 -- PCM, one channel, samples and bytes a second, bytes and bits of a sample
 abbrev pub format : ℕ → List ℕ

@@ -10,7 +10,8 @@ use Rattle.word.proofs.Order.{is, isnt}
 use Rattle.shape.specs.Shape.{lpcOrder, rateOf}
 use Rattle.decoder.specs.State.{shapeOf}
 use Rattle.decoder.specs.Outcome.{Framed}
-use Rattle.cng.specs.Noise.{cngReady, heardNoise, sounding, sounded, withNoise}
+use Rattle.decoder.specs.With.{withNoise}
+use Rattle.cng.specs.Noise.{cngReady, heardNoise, sounding, sounded}
 use Rattle.cng.proofs.Cases.{received-is, lost-is}
 use Rattle.cng.proofs.comfort_noise.Statement.{statement}
 use Rattle.cng.proofs.comfort_noise.Tie as tie
@@ -47,16 +48,16 @@ returns c =
 
 lost-requires : tie.Need-lost-requires
 lost-requires c κs =
-    let k = c .before .before .before .before .before .before .before .before in
+    let k = c .before .before .before .before .before .before .before .before .before .before in
     let s = k .before in
     rw (khz k) (s .pre .0, s .pre .2, s .pre .3)
 
 returns-2 : tie.Need-returns-2
 returns-2 c =
     let w = c .before in
-    let g = w .before in
+    let g = w .before .before in
     let t = g .before .before in
-    let i = t .before .before in
+    let i = t .before .before .before in
     let l = i .before in
     let k = l .before .before .before in
     let a = k .before .args in
@@ -67,10 +68,12 @@ returns-2 c =
     let frame = a .frame .now in
     let n = length frame in
     let z = isnt w32 (s .«loss_cnt») 0 (i .if1 .left) in
-    let e : w .lost .result ≡ sounded d h n = rw (w .lost .ensures .0, khz k) in
-    let f : w .lost .last .1 .1 .1 .1 .0 ≡ sounding d (s .«s_plc» .«rand_scale_q14») (getD (s .«s_plc» .«prev_gain_q16») 1 (pos 0)) h n frame =
-    rw (w .lost .ensures .1, khz k, kept w16 (s .«s_plc» .«rand_scale_q14») (t .struct-told5 .given .1 .1 .1 .1 .1 .0 .1), kept w32 (getD (s .«s_plc» .«prev_gain_q16») 1 (pos 0)) (g .before .lost-arg .given)) in
-    let one : _≡_ {A = Framed} (record { state = withNoise s (w .lost .result); frame = w .lost .last .1 .1 .1 .1 .0 }) (record { state = withNoise s (sounded d h n); frame = sounding d (s .«s_plc» .«rand_scale_q14») (getD (s .«s_plc» .«prev_gain_q16») 1 (pos 0)) h n frame }) = λ i. record { state = withNoise s (e i); frame = f i } in
+    let v = s .settings .edition in
+    let u = kept w32 v (w .before .struct-told6 .given .1 .0 .1) in
+    let e : w .lost .result ≡ sounded v d h n = rw (w .lost .ensures .0, khz k, u) in
+    let f : w .lost .last .1 .1 .1 .1 .1 .0 ≡ sounding v d (s .«s_plc» .«rand_scale_q14») (getD (s .«s_plc» .«prev_gain_q16») 1 (pos 0)) h n frame =
+    rw (w .lost .ensures .1, khz k, u, kept w16 (s .«s_plc» .«rand_scale_q14») (t .struct-told5 .given .1 .1 .1 .1 .1 .0 .1), kept w32 (getD (s .«s_plc» .«prev_gain_q16») 1 (pos 0)) (g .before .lost-arg .given)) in
+    let one : _≡_ {A = Framed} (record { state = withNoise s (w .lost .result); frame = w .lost .last .1 .1 .1 .1 .1 .0 }) (record { state = withNoise s (sounded v d h n); frame = sounding v d (s .«s_plc» .«rand_scale_q14») (getD (s .«s_plc» .«prev_gain_q16») 1 (pos 0)) h n frame }) = λ i. record { state = withNoise s (e i); frame = f i } in
     one ∙ sym (lost-is p s (a .gains .now) n frame z)
 
 pub comfort-noise-spec : {M : Type 1} → statement M

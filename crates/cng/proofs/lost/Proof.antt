@@ -29,8 +29,8 @@ returns c =
     let r = n .before .before in
     let o = r .before in
     let s = o .before in (
-      rw (n .noise .ensures .0, order o, at-rate r),
-      rw (n .noise .ensures .1, order o, at-rate r, toZ-ofZ (s .fits .scale), toZ-ofZ (s .fits .last)),
+      rw (n .noise .ensures .0, order o, at-rate r, toZ-ofZ (s .fits .edition)),
+      rw (n .noise .ensures .1, order o, at-rate r, toZ-ofZ (s .fits .edition), toZ-ofZ (s .fits .scale), toZ-ofZ (s .fits .last)),
     )
 
 pub lost-spec : {M : Type 1} → statement M

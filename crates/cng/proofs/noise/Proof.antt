@@ -31,15 +31,15 @@ sixteen : (s : tie.Start) → length (s .args .h .«cng_synth_state») ≡ 16
 sixteen s = search needs
 
 -- the signal, the generator after it, and the length of the buffer
-made : (c : tie.After-noise-signal) → let s = c .before .before .before in let n = length (s .args .frame .now) in let sig = c .noise-signal .last .0 in (sig ≡ noiseSignal (s .args .d) (s .args .h) n) × (c .noise-signal .result ≡ seedAt (s .args .h .«rand_seed») n) × (length sig ≡ 16 + n) × (length (sig ++ drop (16 + n) (c .before .before .zeros336 .result)) ≡ 336)
+made : (c : tie.After-noise-signal) → let s = c .before .before .before in let n = length (s .args .frame .now) in let sig = c .noise-signal .last .0 in (sig ≡ noiseSignal (s .args .edition) (s .args .d) (s .args .h) n) × (c .noise-signal .result ≡ seedAt (s .args .h .«rand_seed») n) × (length sig ≡ 16 + n) × (length (sig ++ drop (16 + n) (c .before .before .zeros336 .result)) ≡ 336)
 made c =
     let z = c .before .before in
     let s = z .before in
     let n = length (s .args .frame .now) in
     let b : length (z .zeros336 .result) ≡ 336 = search needs in
     let l : length (take (16 + n) (z .zeros336 .result)) - 16 ≡ n = omega (arith, part z) in
-    let e : c .noise-signal .last .0 ≡ noiseSignal (s .args .d) (s .args .h) n = c .noise-signal .ensures .1 ∙ ap (noiseSignal (s .args .d) (s .args .h)) l in
-    let k : length (c .noise-signal .last .0) ≡ 16 + n = ap length e ∙ noise-length (s .args .d) (s .args .h) n (sixteen s) in
+    let e : c .noise-signal .last .0 ≡ noiseSignal (s .args .edition) (s .args .d) (s .args .h) n = c .noise-signal .ensures .1 ∙ (λ i. noiseSignal (toZ-ofZ (s .fits .edition) i) (s .args .d) (s .args .h) (l i)) in
+    let k : length (c .noise-signal .last .0) ≡ 16 + n = ap length e ∙ noise-length (s .args .edition) (s .args .d) (s .args .h) n (sixteen s) in
     (e, c .noise-signal .ensures .0 ∙ ap (seedAt (s .args .h .«rand_seed»)) l, k, simp (length-append, length-drop) (omega (arith, s .pre .0)))
 
 part-added-end : tie.Need-part-added-end
@@ -68,9 +68,9 @@ returns c =
     let h = s .args .h in
     let frame = s .args .frame .now in
     let n = length frame in
-    let sig = noiseSignal (s .args .d) h n in
+    let sig = noiseSignal (s .args .edition) (s .args .d) h n in
     let rest = drop (16 + n) (z .zeros336 .result) in
-    let l = noise-length (s .args .d) h n (sixteen s) in (
+    let l = noise-length (s .args .edition) (s .args .d) h n (sixteen s) in (
       rw (c .before .copy32-at .ensures, made w .0, got w32 (w .noise-signal .ok) (made w .1), new-memory sig rest n l (h .«cng_synth_state») (sixteen s)),
       rw (
         c .before .before .before .before .before .before .before .added .ensures,

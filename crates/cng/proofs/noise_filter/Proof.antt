@@ -3,6 +3,7 @@ use native.Mathlib.Omega.{arith}
 use borrow.Author.Needs.{needs}
 use lib.ListN.{length, take}
 use lib.Seq.{length-take-le}
+use mir.Facts.{toZ-ofZ}
 use Rattle.nlsf.proofs.Polynomials.{order-even}
 use Rattle.cng.proofs.noise_filter.Statement.{statement}
 use Rattle.cng.proofs.noise_filter.Tie as tie
@@ -28,7 +29,9 @@ nlsf2a-requires c κs =
     (s .pre .0, part z, search needs, s .pre .1)
 
 returns : tie.Need-returns
-returns c = rw (c .before .nlsf2a .ensures, c .before .before .before .before .zeros16 .ensures)
+returns c =
+    let z = c .before .before .before .before in
+    rw (c .before .nlsf2a .ensures, toZ-ofZ (z .before .fits .edition), z .zeros16 .ensures)
 
 pub noise-filter-spec : {M : Type 1} → statement M
 noise-filter-spec =

@@ -11,11 +11,11 @@ use Rattle.coefficients.proofs.stored.Statement.{statement}
 use Rattle.coefficients.proofs.stored.Tie as tie
 
 -- there is a place for the number, and it has 16 bits
-room : (c : tie.Start) → (c .args .e .count < 16) × (c .args .e .size < cond (c .args .e .negative) 32769 32768)
+room : (c : tie.Start) → (c .args .e .count < 17) × (c .args .e .size < cond (c .args .e .negative) 32769 32768)
 unfolding fits
 room c =
     let e = c .args .e in
-    let b = both (ltb (e .count) 16) (ltb (e .size) (cond (e .negative) 32769 32768)) (c .pre) in
+    let b = both (ltb (e .count) 17) (ltb (e .size) (cond (e .negative) 32769 32768)) (c .pre) in
     (ltb-true _ _ (b .0), ltb-true _ _ (b .1))
 
 number-requires : tie.Need-number-requires

@@ -2,18 +2,20 @@ use Prim.Native.Nat.{_+_}
 use mathlib.Core.Path.{_≡_, refl, sym, ap, _∙_}
 use native.Mathlib.Omega.{arith}
 use borrow.Author.Needs.{needs}
-use mathlib.Core.Bool.{false}
+use mathlib.Core.Bool.{false, cond}
 use lib.IntN.{pos, natAbs, _+ℤ_}
-use lib.ListN.{length}
+use lib.ListN.{length, replicate}
 use Rattle.word.specs.Int.{eqℤ}
 use Rattle.word.proofs.Order.{eqℤ-ne}
 use Rattle.shape.specs.Shape.{shape, isRate, isCount, rateOf, frameLength}
 use Rattle.decoder.specs.Ranges.{cngFits}
+use Rattle.decoder.specs.Settings.{squelched}
 use Rattle.decoder.specs.State.{shapeOf}
+use Rattle.decoder.specs.Outcome.{Outcome}
 use Rattle.decoder.proofs.Between.{natural-back}
 use Rattle.decoder.proofs.Bounds.{bounds, plc-fits, cng-fits}
 use Rattle.plc.specs.Conceal.{plcConceal}
-use Rattle.decode_frame.specs.WholeFrame.{remembered, finished, lost}
+use Rattle.decode_frame.specs.WholeFrame.{remembered, finished, lost, muted}
 use Rattle.decode_frame.proofs.Noised.{all-samples}
 use Rattle.decode_frame.proofs.lost.Statement.{statement}
 use Rattle.decode_frame.proofs.lost.Tie as tie
@@ -74,15 +76,13 @@ finished-requires c κs =
       ap (λ t. eqℤ (t .«loss_cnt») (pos 0)) r ∙ loss o,
     )
 
-same-length : tie.Need-same-length
-same-length c = search needs
-
-returns : tie.Need-returns
+-- the frame before a squelch
+whole : (c : tie.After-finished) → let o = c .before .before .before .before .before .before .before in let s = o .before .before .args .s in _≡_ {A = Outcome} (record { state = c .finished .result; control = o .plc-conceal .result .control; samples = c .finished .last .1 .1 .0 }) (lost (shapeOf s) s (o .before .before .args .c))
 unfolding lost remembered plcConceal
-returns c =
-    let f = c .before .finished in
-    let r = c .before .before .before .remembered in
-    let o = c .before .before .before .before .before .before .before .before in
+whole c =
+    let f = c .finished in
+    let r = c .before .before .remembered in
+    let o = c .before .before .before .before .before .before .before in
     let a = o .before .before in
     let x = o .plc-conceal .ensures .1 ∙ all-samples _ _ _ (a .pre .2) in
     let st = ap (λ t. t .state) (o .plc-conceal .ensures .0) in
@@ -90,7 +90,25 @@ returns c =
     let t = r .ensures ∙ λ i. remembered (shapeOf (st i)) (st i) (x i) in
     f .ensures ∙ λ i. finished (shapeOf (t i)) (record { state = t i; control = ct i; samples = x i })
 
+same-length : tie.Need-same-length
+same-length c = search needs
+
+returns : tie.Need-returns
+unfolding muted
+returns c =
+    let m = c .before .mute in
+    let q = c .before .before .before .squelched in
+    let f = c .before .before .before .before .before in
+    let o = f .before .before .before .before .before .before .before in
+    let a = o .before .before in
+    let y = f .finished .last .1 .1 .0 in
+    let n : length y ≡ frameLength (shapeOf (a .args .s)) = omega (arith, f .finished .kept, o .plc-conceal .kept, a .pre .2) in
+    let z : m .last .1 .0 ≡ cond (squelched (a .args .s)) (replicate (frameLength (shapeOf (a .args .s))) (pos 0)) y =
+    m .ensures ∙ λ i. cond (q .ensures i) (replicate (n i) (pos 0)) y in
+    (λ i. record { state = f .finished .result; control = o .plc-conceal .result .control; samples = z i })
+    ∙ ap (muted (shapeOf (a .args .s)) (squelched (a .args .s))) (whole f)
+
 pub lost-spec : {M : Type 1} → statement M
 lost-spec =
     tie.close
-    (tie.spec plc-conceal-requires remembered-requires finished-requires same-length returns)
+    (tie.spec plc-conceal-requires remembered-requires finished-requires (λ c κs. tt) (λ c κs. tt) same-length returns)

@@ -8,13 +8,14 @@ use mir.Facts.{toZ-ofZ}
 use Rattle.refusal.specs.First.{firstOf}
 use Rattle.refusal.specs.Refusals.{refusalNumber}
 use Rattle.shape.specs.Shape.{shape, frameLength}
+use Rattle.decoder.specs.Settings.{squelched}
 use Rattle.decoder.specs.Reshape.{reshapedBy, reshaped}
 use Rattle.decoder.specs.State.{shapeOf}
 use Rattle.decoder.specs.declared.SilkDecoderState.{SilkDecoderState}
 use Rattle.decoder.specs.declared.Frame.the-variants.{Lost}
 use Rattle.judge.specs.Rows.{lostRows}
 use Rattle.judge.proofs.Bounds.{LostFits, lost-fits}
-use Rattle.decode_frame.specs.WholeFrame.{lost, wholeFrame}
+use Rattle.decode_frame.specs.WholeFrame.{lost, muted, wholeFrame}
 use Rattle.decode_frame.specs.Call.{frameCall}
 use Rattle.decode_frame.specs.Answer.{frameRefusal}
 use Rattle.decode_frame.proofs.Answers.{refused-answer, played-answer}
@@ -76,7 +77,7 @@ returns-2 c =
     let t = c .before .before .before .before .before in
     let i = t .before .before in
     let a = i .before .before .before .args in
-    played-answer (a .s) (frameCall (a .khz) (a .nb-subfr) Lost (a .c) [] [] [] (a .xq .now)) _ (judged (i .before .before)) (sym (refused (i .before)) ∙ i .if1 .left) _ _ (o .ensures ∙ ap (λ (t : SilkDecoderState). lost (shapeOf t) t (a .c)) (moved t)) (samples (t .before))
+    played-answer (a .s) (frameCall (a .khz) (a .nb-subfr) Lost (a .c) [] [] [] (a .xq .now)) _ (judged (i .before .before)) (sym (refused (i .before)) ∙ i .if1 .left) _ _ (o .ensures ∙ ap (λ (t : SilkDecoderState). muted (shapeOf t) (squelched t) (lost (shapeOf t) t (a .c))) (moved t)) (samples (t .before))
 
 pub lost-frame-spec : {M : Type 1} → statement M
 lost-frame-spec =

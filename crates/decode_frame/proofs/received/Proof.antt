@@ -13,7 +13,8 @@ use Rattle.word.proofs.Words.{kept, got}
 use Rattle.sigproc.specs.Place.{updateOutBuf}
 use Rattle.shape.specs.Shape.{shape, isRate, isCount, rateOf, countOf, frameLength, memLength, lpcOrder}
 use Rattle.shape.proofs.Shapes.{Shaped, shaped, counts, count-range, order-le, frame-le}
-use Rattle.decoder.specs.Outcome.{Outcome, build}
+use Rattle.decoder.specs.With.{withGain, withExc, withMemory, withOutBuf}
+use Rattle.decoder.specs.Outcome.{Outcome}
 use Rattle.decoder.specs.Signals.{signalNumber}
 use Rattle.decoder.specs.State.{shapeOf}
 use Rattle.decoder.specs.declared.SilkDecoderState.{SilkDecoderState}
@@ -75,7 +76,7 @@ decode-core-requires c κs =
 
 -- what the core leaves, as its definition has it
 core : (c : tie.After-decode-core) → let f = c .before .before .before .before .before .before .before .before .before in let a = f .before .before .before .before .args in let u = c .decode-core in let l = lined (shapeOf (a .s)) (a .s) (a .lines) in let d = decodeCore (shapeOf (a .s)) l (a .q) (a .c) (a .rows) (a .pulses .now) in
-    (build l (u .result .gain) (u .last .1 .1 .1 .1 .1 .1 .0) (u .last .1 .1 .1 .1 .1 .1 .1 .0) (u .last .1 .1 .1 .1 .1 .1 .1 .1 .0) (l .«lag_prev») (l .«prev_nlsf_q15») (l .«first_frame_after_reset») (l .«s_cng») (l .«loss_cnt») (l .«prev_signal_type») (l .«s_plc») ≡ d .state)
+    (withOutBuf (withMemory (withExc (withGain l (u .result .gain)) (u .last .1 .1 .1 .1 .1 .1 .0)) (u .last .1 .1 .1 .1 .1 .1 .1 .0)) (u .last .1 .1 .1 .1 .1 .1 .1 .1 .0) ≡ d .state)
     × (u .result .control ≡ d .control)
     × (u .last .1 .1 .1 .1 .1 .1 .1 .1 .1 .0 ≡ d .samples)
 unfolding lined settingOf transition
@@ -148,36 +149,36 @@ receive-requires c κs =
       rw shift (b .plc .«conc_energy_shift» .high),
     )
 
-sub-t48 : tie.Need-sub-t48
-sub-t48 c =
-    let k = c .before .before .before .before .before .before .before .before .before .before .before .before .before .before .before .before .before .before .before .before .before .before .before .before .before .before .before .before .before .before .before in
+sub-t49 : tie.Need-sub-t49
+sub-t49 c =
+    let k = c .before .before .before .before .before .before .before .before .before .before .before .before .before .before .before .before .before .before .before .before .before .before .before .before .before .before .before .before .before .before .before .before in
     omega (arith, count k, ranges (k .before .before .before) .count-low)
 
-mul-t49 : tie.Need-mul-t49
-mul-t49 c =
-    let k = c .before .before .before .before .before .before .before .before .before .before .before .before .before .before .before .before .before .before .before .before .before .before .before .before .before .before .before .before .before .before .before in
+mul-t50 : tie.Need-mul-t50
+mul-t50 c =
+    let k = c .before .before .before .before .before .before .before .before .before .before .before .before .before .before .before .before .before .before .before .before .before .before .before .before .before .before .before .before .before .before .before .before in
     omega (arith, count k, ranges (k .before .before .before) .count-high)
 
-array-copy-out-t52 : tie.Need-array-copy-out-t52
-array-copy-out-t52 c =
-    let k = c .before .before .before .before .before .before .before .before .before .before .before .before .before .before .before .before .before .before .before .before .before .before .before .before .before .before .before .before .before .before .before in
+array-copy-out-t53 : tie.Need-array-copy-out-t53
+array-copy-out-t53 c =
+    let k = c .before .before .before .before .before .before .before .before .before .before .before .before .before .before .before .before .before .before .before .before .before .before .before .before .before .before .before .before .before .before .before .before in
     omega (arith, count k, ranges (k .before .before .before) .count-high)
 
 same-length : tie.Need-same-length
-same-length c = omega (arith, c .before .before .before .before .receive .kept, c .before .before .before .before .before .before .before .before .before .before .before .before .before .before .before .before .before .before .before .before .before .before .before .before .decode-core .kept)
+same-length c = omega (arith, c .before .before .before .before .before .receive .kept, c .before .before .before .before .before .before .before .before .before .before .before .before .before .before .before .before .before .before .before .before .before .before .before .before .before .decode-core .kept)
 
 returns : tie.Need-returns
 unfolding received lined
 returns c =
     let g = c .before in
-    let r = c .before .before .before .before in
-    let n = c .before .before .before .before .before .before in
-    let ty = c .before .before .before .before .before .before .before .before .before .before in
-    let u = c .before .before .before .before .before .before .before .before .before .before .before in
-    let h = c .before .before .before .before .before .before .before .before .before .before .before .before .before in
-    let l = c .before .before .before .before .before .before .before .before .before .before .before .before .before .before .before in
-    let o = c .before .before .before .before .before .before .before .before .before .before .before .before .before .before .before .before .before .before .before .before .before .before .before .before in
-    let f = c .before .before .before .before .before .before .before .before .before .before .before .before .before .before .before .before .before .before .before .before .before .before .before .before .before .before .before .before .before .before .before .before .before in
+    let r = c .before .before .before .before .before in
+    let n = c .before .before .before .before .before .before .before in
+    let ty = c .before .before .before .before .before .before .before .before .before .before .before in
+    let u = c .before .before .before .before .before .before .before .before .before .before .before .before in
+    let h = c .before .before .before .before .before .before .before .before .before .before .before .before .before .before in
+    let l = c .before .before .before .before .before .before .before .before .before .before .before .before .before .before .before .before in
+    let o = c .before .before .before .before .before .before .before .before .before .before .before .before .before .before .before .before .before .before .before .before .before .before .before .before .before in
+    let f = c .before .before .before .before .before .before .before .before .before .before .before .before .before .before .before .before .before .before .before .before .before .before .before .before .before .before .before .before .before .before .before .before .before .before in
     let k = f .before in
     let t2 = k .before in
     let a = t2 .before .before .args in
@@ -189,11 +190,11 @@ returns c =
     let exc = d .last .1 .1 .1 .1 .1 .1 .0 in
     let memory = d .last .1 .1 .1 .1 .1 .1 .1 .0 in
     let ob = d .last .1 .1 .1 .1 .1 .1 .1 .1 .0 in
-    let t = build (lined p s (a .lines)) (d .result .gain) exc memory ob (s .«lag_prev») (lined p s (a .lines) .«prev_nlsf_q15») (s .«first_frame_after_reset») (s .«s_cng») (s .«loss_cnt») (s .«prev_signal_type») (s .«s_plc») in
+    let t = withOutBuf (withMemory (withExc (withGain (lined p s (a .lines)) (d .result .gain)) exc) memory) ob in
     let gain = kept w32 (d .result .gain) (g .struct-told4 .given .1 .0 .1) in
     let history : h .update-out-buf .result ≡ updateOutBuf ob (memLength p) x = h .update-out-buf .ensures ∙ ap (λ m. updateOutBuf ob m x) (memory-length f) in
     let lines : l .with-front .result ≡ take (lpcOrder p) (a .lines) ++ drop (lpcOrder p) (s .«prev_nlsf_q15») = l .with-front .ensures ∙ ap (λ d. take d (a .lines) ++ drop d (s .«prev_nlsf_q15»)) (order f) in
-    let lag = kept w32 (getD (d .result .control .«pitch_l») (k .count-of .result - 1) (pos 0)) (c .before .before .t52 .given) ∙ ap (λ n. getD (d .result .control .«pitch_l») (n - 1) (pos 0)) (count k) in
+    let lag = kept w32 (getD (d .result .control .«pitch_l») (k .count-of .result - 1) (pos 0)) (c .before .before .t53 .given) ∙ ap (λ n. getD (d .result .control .«pitch_l») (n - 1) (pos 0)) (count k) in
     let kind = got w32 (ty .type-number .ok) (ty .type-number .ensures) in
     let noise : n .received2 .result ≡ heardNoise p exc (take (lpcOrder p) (a .lines) ++ drop (lpcOrder p) (s .«prev_nlsf_q15»)) (d .result .control .«gains_q16») (signalNumber signal) (s .«s_cng») =
     rw (n .received2 .ensures, khz (t2 .before), nb t2, lines, kind) in
@@ -219,6 +220,7 @@ returns c =
         «loss_cnt» = pos 0;
         «prev_signal_type» = kind i;
         «s_plc» = plc i;
+        settings = s .settings;
       };
       control = d .result .control;
       samples = (r .receive .ensures .1 ∙ ap q (updated u)) i;
@@ -231,4 +233,4 @@ received-spec =
     tie.close
     (tie.spec (λ c κs. search needs) (λ c κs. search needs) (λ c. search needs) (λ c. search needs) (λ c. search needs)
     decode-core-requires with-front-requires update-out-buf-requires received-requires (λ c κs. search needs)
-    received-requires-2 receive-requires sub-t48 mul-t49 array-copy-out-t52 same-length returns)
+    received-requires-2 receive-requires sub-t49 mul-t50 array-copy-out-t53 same-length returns)

@@ -6,7 +6,7 @@ use Rattle.word.proofs.Words.{kept}
 use Rattle.sigproc.specs.Place.{updateOutBuf}
 use Rattle.shape.specs.Shape.{rateOf}
 use Rattle.shape.proofs.Shapes.{shaped}
-use Rattle.decoder.specs.Outcome.{build}
+use Rattle.decoder.specs.With.{withOutBuf}
 use Rattle.decode_frame.specs.WholeFrame.{remembered}
 use Rattle.decode_frame.proofs.remembered.Statement.{statement}
 use Rattle.decode_frame.proofs.remembered.Tie as tie
@@ -26,7 +26,7 @@ returns c =
     let a = c .before .before .before .before .args in
     let s = a .s in
     let e = c .update-out-buf .ensures ∙ ap (λ m. updateOutBuf (s .«out_buf») m (a .frame .now)) (history (c .before)) in
-    λ i. build s (s .«prev_gain_q16») (s .«exc_q14») (s .«s_lpc_q14_buf») (e i) (s .«lag_prev») (s .«prev_nlsf_q15») (s .«first_frame_after_reset») (s .«s_cng») (s .«loss_cnt») (s .«prev_signal_type») (s .«s_plc»)
+    λ i. withOutBuf s (e i)
 
 pub remembered-spec : {M : Type 1} → statement M
 remembered-spec = tie.close (tie.spec (λ c κs. tt) update-out-buf-requires returns)

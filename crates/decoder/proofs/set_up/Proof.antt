@@ -1,32 +1,13 @@
-use mathlib.Core.Path.{_≡_, sym, ap, _∙_}
-use borrow.Author.Tests.{eq-eqb, ne-eqb}
 use mir.Facts.{toZ-ofZ}
-use Rattle.refusal.specs.Refusals.{refusalNumber}
-use Rattle.decoder.specs.SetUp.{setUpRefusal, setUp}
+use Rattle.decoder.specs.SetUp.{setUp}
 use Rattle.decoder.proofs.set_up.Statement.{statement}
 use Rattle.decoder.proofs.set_up.Tie as tie
-
--- the refusal that the code found, and its number
-found : (c : tie.After-number) → let a = c .before .before .args in c .before .set-up-refusal .result ≡ setUpRefusal (a .fs-khz) (a .nb-subfr)
-found c = let f = c .before .before .fits in rw (c .before .set-up-refusal .ensures, toZ-ofZ (f .fs-khz), toZ-ofZ (f .nb-subfr))
-
-counted : (c : tie.After-number) → let a = c .before .before .args in c .number .result ≡ refusalNumber (setUpRefusal (a .fs-khz) (a .nb-subfr))
-counted c = c .number .ensures ∙ ap refusalNumber (found c)
 
 returns : tie.Need-returns
 unfolding setUp
 returns c =
-    let n = c .before .before in
-    rw (ne-eqb _ 0 (λ e. c .before .if1 .taken (counted n ∙ e)), found n, c .state-from .ensures)
-
-returns-2 : tie.Need-returns-2
-unfolding setUp
-returns-2 c =
-    let n = c .before .before in
-    let f = n .before .before .fits in
-    rw (eq-eqb _ 0 (sym (counted n) ∙ c .before .if1 .left), found n, c .state-from2 .ensures, toZ-ofZ (f .fs-khz), toZ-ofZ (f .nb-subfr))
+    let f = c .before .before .fits in
+    rw (c .set-up-with .ensures, c .before .default-settings .ensures, toZ-ofZ (f .fs-khz), toZ-ofZ (f .nb-subfr))
 
 pub set-up-spec : {M : Type 1} → statement M
-set-up-spec =
-    tie.close
-    (tie.spec (λ c κs. tt) (λ c κs. tt) (λ c κs. tt) returns (λ c κs. tt) returns-2)
+set-up-spec = tie.close (tie.spec (λ c κs. tt) (λ c κs. tt) returns)

@@ -11,8 +11,11 @@ use Rattle.layout.proofs.put_halves.Statement.{statement}
 use Rattle.layout.proofs.put_halves.Tie as tie
 
 -- the lengths of the arrays
+filter-length : (c : tie.Start) → length (c .args .t1 .«s_plc» .«prev_lpc_q12») ≡ 16
+filter-length c = search (needs, c .good .0 .1 .1 .1 .1 .1 .1 .1 .1 .1 .1 .1 .1 .1 .1 .1 .1 .1 .1 .0)
+
 sizes : (c : tie.Start) → let s = c .args .t1 in (length (s .«out_buf») ≡ 480) × (length (s .«prev_nlsf_q15») ≡ 16) × (length (s .«s_plc» .«ltp_coef_q14») ≡ 5) × (length (s .«s_plc» .«prev_lpc_q12») ≡ 16) × (length (s .«s_cng» .«cng_smth_nlsf_q15») ≡ 16)
-sizes c = (search needs, search needs, search needs, search needs, search needs)
+sizes c = (search needs, search needs, search needs, filter-length c, search needs)
 
 returns : tie.Need-returns
 unfolding stateHalves

@@ -1,11 +1,11 @@
 use Prim.Native.Nat.{_≤_}
 use mathlib.Core.Path.{_≡_, sym, ap, _∙_}
-use mathlib.Core.List.{List}
 use native.Mathlib.Omega.{arith}
 use borrow.Author.Needs.{needs}
-use lib.IntN.{ℤ, pos}
+use lib.IntN.{pos}
 use lib.ListN.{length, take, drop, replicate}
 use lib.Seq.{length-take-le, take-at}
+use mir.Facts.{toZ-ofZ}
 use Rattle.nlsf.specs.Lines.{lpcCoefficients}
 use Rattle.nlsf.specs.Filter.{stabilised, nlsf2a}
 use Rattle.nlsf.specs.Fit.{Fit, lpcFit}
@@ -40,7 +40,7 @@ returns c =
     let a = lpcCoefficients (s .nlsf .now) (s .d) in
     let e : take (s .d) (f .from-lines .result) ≡ a =
     rw (f .from-lines .ensures) (take-at a (drop (s .d) (replicate 16 (pos 0))) (s .d) (length-coefficients (s .nlsf .now) (s .d))) in
-    ap (λ (x : Fit). x .q12) (t .settle .ensures ∙ ap (λ (x : List ℤ). stabilised 16 0 (lpcFit 10 x)) e)
+    ap (λ (x : Fit). x .q12) (t .settle .ensures ∙ (λ i. stabilised (toZ-ofZ (f .before .fits .edition) i) 16 0 (lpcFit 10 (e i))))
 
 pub nlsf2a-spec : {M : Type 1} → statement M
 nlsf2a-spec =

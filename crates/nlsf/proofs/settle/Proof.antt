@@ -1,6 +1,6 @@
-use mathlib.Core.Path.{ap, _∙_}
+use mathlib.Core.Path.{_∙_}
+use mir.Facts.{toZ-ofZ}
 use borrow.Author.Needs.{needs}
-use Rattle.nlsf.specs.Filter.{stabilised}
 use Rattle.nlsf.proofs.settle.Statement.{statement}
 use Rattle.nlsf.proofs.settle.Tie as tie
 
@@ -8,7 +8,7 @@ returns : tie.Need-returns
 returns c =
     let t = c .before .before in
     let f = t .before .before .before .before .before in
-    t .stabilise .ensures ∙ ap (stabilised 16 0) (f .silk-lpc-fit .ensures)
+    t .stabilise .ensures ∙ rw (toZ-ofZ (f .before .before .before .fits .edition), f .silk-lpc-fit .ensures)
 
 pub settle-spec : {M : Type 1} → statement M
 settle-spec =

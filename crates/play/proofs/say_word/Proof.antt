@@ -1,19 +1,12 @@
 use Prim.Native.Nat.{_≤_}
 use mathlib.Core.Path.{_≡_, sym}
 use native.Mathlib.Omega.{arith}
-use lib.Dec.{lit≤}
 use lib.ListN.{length}
 use lib.Seq.{length-take-le}
-use Rattle.refusal.specs.Refusals.{refusalWord, textOf}
-use Rattle.refusal.specs.declared.Refusal.{Refusal}
-use Rattle.refusal.specs.declared.Refusal.the-variants.{Nothing, Rate, Size, History, RunFull, Signal, Gain, Lag, Taps, Line, Pulses, Speaker, Length, Order}
+use Rattle.refusal.proofs.Words.{short}
 use borrow.Author.Needs.{needs}
 use Rattle.play.proofs.say_word.Statement.{statement}
 use Rattle.play.proofs.say_word.Tie as tie
-
--- a word has at most eight letters
-short : (r : Refusal) → textOf (refusalWord r) .len ≤ 8
-short r = elim r [ Nothing ↦ lit≤ tt | Rate ↦ lit≤ tt | Size ↦ lit≤ tt | History ↦ lit≤ tt | RunFull ↦ lit≤ tt | Signal ↦ lit≤ tt | Gain ↦ lit≤ tt | Lag ↦ lit≤ tt | Taps ↦ lit≤ tt | Line ↦ lit≤ tt | Pulses ↦ lit≤ tt | Speaker ↦ lit≤ tt | Length ↦ lit≤ tt | Order ↦ lit≤ tt ]
 
 array-share-prefix-letters : tie.Need-array-share-prefix-letters
 array-share-prefix-letters c =

@@ -8,9 +8,10 @@ use Rattle.decode_core.specs.Answer.{coreAnswer, coreOutput}
 use Rattle.layout.specs.Layout.{WORDS, HALVES, stateIn}
 use Rattle.layout.specs.Frame.{FRAME, COEFS, paramsIn, controlIn, rowsIn}
 use Rattle.layout.proofs.Slices.{call-long}
+use Rattle.slices.proofs.Ends.{again}
 use Rattle.post.specs.Calls.{called}
 use Rattle.post.specs.Stages.{coreCall}
-use Rattle.post.proofs.Ends.{again, control-ended}
+use Rattle.post.proofs.Ends.{control-ended}
 use Rattle.post.proofs.post_core.Statement.{statement}
 use Rattle.post.proofs.post_core.Tie as tie
 

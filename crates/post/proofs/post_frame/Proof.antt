@@ -1,13 +1,15 @@
 use mathlib.Core.Path.{_≡_, sym, _∙_}
 use mathlib.Core.Bool.{false}
-use borrow.Author.Needs.{needs}
+use lib.IntN.{pos}
 use lib.ListN.{length}
 use mir.Syntax.{w32}
 use Rattle.word.proofs.Words.{kept}
+use Rattle.refusal.specs.Refusals.{refusalNumber}
 use Rattle.layout.specs.Frame.{shortCall}
-use Rattle.layout.proofs.Slices.{call-long}
-use Rattle.post.specs.Calls.{slices, called}
-use Rattle.post.specs.Stages.{playedCall, frameCall}
+use Rattle.slices.specs.Whole.{answered}
+use Rattle.post.specs.Calls.{called}
+use Rattle.post.specs.Stages.{frameCall}
+use Rattle.post.proofs.Ends.{ended}
 use Rattle.post.proofs.post_frame.Statement.{statement}
 use Rattle.post.proofs.post_frame.Tie as tie
 
@@ -16,39 +18,17 @@ long : (c : tie.Else1) → let a = c .before .before .args in shortCall (length 
 long c = sym (c .before .short-call .ensures) ∙ c .if1 .left
 
 returns : tie.Need-returns
-unfolding frameCall playedCall called
+unfolding frameCall called
 returns c = rw (sym (c .before .short-call .ensures) ∙ c .if1 .taken)
 
-frame-in-requires : tie.Need-frame-in-requires
-frame-in-requires c κs = call-long _ _ _ _ (long (c .before)) .2
-
-lost-requires : tie.Need-lost-requires
-lost-requires c κs = long (c .before .before .before .before .before .before .before .before .before)
+play-frame-requires : tie.Need-play-frame-requires
+play-frame-requires c κs = long (c .before .before .before .before .before)
 
 returns-2 : tie.Need-returns-2
-unfolding frameCall
+unfolding frameCall answered
 returns-2 c =
-    let l = c .before .before .before .before .before in
-    let t = l .before .before .before .before .before .before in
-    let a = t .before .before .before .before .before .before .args in
-    let was = sym (t .enum-told .given .1) ∙ t .before .before .frame-in .ensures in
-    rw (kept w32 (l .lost .result) (l .lost .ok))
-    (l .lost .ensures ∙ λ i. playedCall (was i) (slices (a .words .now) (a .halves .now) (a .frame .now) (a .coefs .now) (a .pulses .now) (a .output .now)))
-
-received-requires : tie.Need-received-requires
-received-requires c κs = long (c .before .before .before .before .before .before .before .before .before .before)
-
-returns-3 : tie.Need-returns-3
-unfolding frameCall
-returns-3 c =
-    let l = c .before .before .before .before .before in
-    let t = l .before .before .before .before .before .before .before in
-    let a = t .before .before .before .before .before .before .args in
-    let was = sym (t .f .given .1) ∙ t .before .before .frame-in .ensures in
-    rw (kept w32 (l .received .result) (l .received .ok))
-    (l .received .ensures ∙ λ i. playedCall (was i) (slices (a .words .now) (a .halves .now) (a .frame .now) (a .coefs .now) (a .pulses .now) (a .output .now)))
+    let p = c .before .before .before .before .before .before .play-frame .ensures in
+    ended _ _ _ (long (c .before .before .before .before .before .before .before .before .before .before .before .before)) (kept w32 _ (c .code .ok) ∙ c .code .ensures ∙ λ i. pos (refusalNumber (p i .refusal))) (λ i. p i .after)
 
 pub post-frame-spec : {M : Type 1} → statement M
-post-frame-spec =
-    tie.close
-    (tie.spec (λ c κs. tt) returns frame-in-requires (λ c. search needs) (λ c. search needs) lost-requires (λ c. c .before .before .before .before .before .lost .kept .0) (λ c. c .before .before .before .before .before .lost .kept .1 .0) (λ c. c .before .before .before .before .before .lost .kept .1 .1 .0) (λ c. c .before .before .before .before .before .lost .kept .1 .1 .1 .0) (λ c. c .before .before .before .before .before .lost .kept .1 .1 .1 .1 .1 .0) returns-2 received-requires (λ c. c .before .before .before .before .before .received .kept .1 .0) (λ c. c .before .before .before .before .before .received .kept .1 .1 .0) (λ c. c .before .before .before .before .before .received .kept .1 .1 .1 .0) (λ c. c .before .before .before .before .before .received .kept .1 .1 .1 .1 .0) (λ c. c .before .before .before .before .before .received .kept .1 .1 .1 .1 .1 .1 .0) returns-3)
+post-frame-spec = tie.close (tie.spec (λ c κs. tt) returns play-frame-requires (λ c κs. tt) (λ c. c .before .before .before .before .before .before .play-frame .kept .0) (λ c. c .before .before .before .before .before .before .play-frame .kept .1 .0) (λ c. c .before .before .before .before .before .before .play-frame .kept .1 .1 .0) (λ c. c .before .before .before .before .before .before .play-frame .kept .1 .1 .1 .0) (λ c. c .before .before .before .before .before .before .play-frame .kept .1 .1 .1 .1 .1 .0) returns-2)

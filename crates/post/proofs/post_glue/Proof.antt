@@ -6,9 +6,10 @@ use Rattle.word.proofs.Words.{kept}
 use Rattle.glue.specs.Answer.{glueAnswer, glueOutput}
 use Rattle.layout.specs.Layout.{WORDS, HALVES, stateIn}
 use Rattle.layout.proofs.Slices.{state-long}
+use Rattle.slices.proofs.Ends.{again}
 use Rattle.post.specs.Calls.{called}
 use Rattle.post.specs.Stages.{glueCall}
-use Rattle.post.proofs.Ends.{again, state-ended}
+use Rattle.post.proofs.Ends.{state-ended}
 use Rattle.post.proofs.post_glue.Statement.{statement}
 use Rattle.post.proofs.post_glue.Tie as tie
 

@@ -7,9 +7,10 @@ use Rattle.cng.specs.Answer.{cngAnswer, cngOutput}
 use Rattle.layout.specs.Layout.{WORDS, HALVES, stateIn}
 use Rattle.layout.specs.Frame.{FRAME, tapless}
 use Rattle.layout.proofs.Slices.{frame-long}
+use Rattle.slices.proofs.Ends.{again}
 use Rattle.post.specs.Calls.{called}
 use Rattle.post.specs.Stages.{noiseCall}
-use Rattle.post.proofs.Ends.{again, state-ended}
+use Rattle.post.proofs.Ends.{state-ended}
 use Rattle.post.proofs.post_noise.Statement.{statement}
 use Rattle.post.proofs.post_noise.Tie as tie
 

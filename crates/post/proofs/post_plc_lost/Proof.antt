@@ -1,4 +1,5 @@
 use Prim.Native.Nat.{_≤_}
+use mathlib.Core.List.{[]}
 use mathlib.Core.Path.{sym, _∙_}
 use lib.IntN.{pos}
 use lib.ListN.{length}
@@ -9,9 +10,11 @@ use Rattle.plc.specs.Answer.{plcLost, plcLostOutput}
 use Rattle.layout.specs.Layout.{WORDS, HALVES, stateIn, withWords, withHalves}
 use Rattle.layout.specs.Frame.{FRAME, tapless, withLags}
 use Rattle.layout.proofs.Slices.{frame-long}
+use Rattle.slices.specs.Slices.{slices}
+use Rattle.slices.proofs.Ends.{same, again, ended as after}
 use Rattle.post.specs.Calls.{called}
 use Rattle.post.specs.Stages.{plcLostCall}
-use Rattle.post.proofs.Ends.{same, again, ended}
+use Rattle.post.proofs.Ends.{ended}
 use Rattle.post.proofs.post_plc_lost.Statement.{statement}
 use Rattle.post.proofs.post_plc_lost.Tie as tie
 
@@ -48,15 +51,18 @@ returns-2 c =
     let d = plcLost (stateIn (a .words .now) (a .halves .now)) (tapless (a .frame .now)) (a .output .now) in
     let r = e .0 ∙ λ i. plcLost (x i) (y i) (a .output .now) in
     let g = c .before .before .before .before .before .before .keep-state .ensures in
-    ended _ _ _
+    let m = slices (a .words .now) (a .halves .now) (a .frame .now) [] [] (a .output .now) in
+    let new = slices (withWords (a .words .now) (d .state)) (withHalves (a .halves .now) (d .state)) (withLags (a .frame .now) (d .control)) [] [] (plcLostOutput (stateIn (a .words .now) (a .halves .now)) (tapless (a .frame .now)) (a .output .now)) in
+    ended (d .refusal) new m
     (sym (k .before .short-frame .ensures) ∙ k .if1 .left)
     (kept w32 _ (c .code .ok) ∙ c .code .ensures ∙ λ i. pos (refusalNumber (r i .refusal)))
+    (after (d .refusal) new m
     (g .0 ∙ λ i. ifAccepted (r i .refusal) (withWords (a .words .now) (r i .state)) (a .words .now))
     (g .1 ∙ λ i. ifAccepted (r i .refusal) (withHalves (a .halves .now) (r i .state)) (a .halves .now))
     (c .before .before .keep-lags .ensures ∙ λ i. ifAccepted (r i .refusal) (withLags (a .frame .now) (r i .control)) (a .frame .now))
     (same (d .refusal) _)
     (same (d .refusal) _)
-    (e .1 ∙ (λ i. plcLostOutput (x i) (y i) (a .output .now)) ∙ again (d .refusal) _ _)
+    (e .1 ∙ (λ i. plcLostOutput (x i) (y i) (a .output .now)) ∙ again (d .refusal) _ _))
 
 pub post-plc-lost-spec : {M : Type 1} → statement M
 post-plc-lost-spec =

@@ -8,9 +8,10 @@ use Rattle.plc.specs.Answer.{plcReceived}
 use Rattle.layout.specs.Layout.{WORDS, HALVES, stateIn}
 use Rattle.layout.specs.Frame.{FRAME, COEFS, paramsIn, controlIn, rowsIn}
 use Rattle.layout.proofs.Slices.{call-long}
+use Rattle.slices.proofs.Ends.{same}
 use Rattle.post.specs.Calls.{called}
 use Rattle.post.specs.Stages.{plcReceivedCall}
-use Rattle.post.proofs.Ends.{same, state-ended}
+use Rattle.post.proofs.Ends.{state-ended}
 use Rattle.post.proofs.post_plc_received.Statement.{statement}
 use Rattle.post.proofs.post_plc_received.Tie as tie
 

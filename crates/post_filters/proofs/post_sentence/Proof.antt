@@ -4,9 +4,10 @@ use borrow.Author.Tests.{lt-ltb, le-ltb}
 use lib.IntN.{pos}
 use lib.ListN.{length}
 use mir.Syntax.{w32}
+use mir.Facts.{toZ-ofZ}
 use Rattle.word.proofs.Words.{got}
 use Rattle.refusal.specs.Refusals.{refusalNumber}
-use Rattle.stability.specs.Stability.{tested}
+use Rattle.stability.specs.Stability.{testedUnder}
 use Rattle.sentence.specs.Sentence.{sentenceOf}
 use Rattle.post_filters.specs.Calls.{called, sentenceCall}
 use Rattle.post_filters.proofs.Ends.{refused, accepted}
@@ -17,9 +18,12 @@ returns : tie.Need-returns
 unfolding sentenceCall called
 returns c = rw (lt-ltb (length (c .before .before .args .text .now)) 64 (c .if1 .taken)) refl
 
--- the number of the call's refusal
-why : (c : tie.After-number) → let s = c .before .before .before .before .args in c .number .result ≡ refusalNumber (tested (s .coefficients .now) (s .order) .refusal)
-why c = c .number .ensures ∙ ap (λ t. refusalNumber (t .refusal)) (c .before .silk-lpc-inverse-pred-gain .ensures)
+-- the test's answer, and the number of its refusal
+answered : (c : tie.After-silk-lpc-inverse-pred-gain-under) → let s = c .before .before .before .args in c .silk-lpc-inverse-pred-gain-under .result ≡ testedUnder (s .coefficients .now) (s .order) (s .edition)
+answered c = rw (c .silk-lpc-inverse-pred-gain-under .ensures, toZ-ofZ (c .before .before .before .fits .edition))
+
+why : (c : tie.After-number) → let s = c .before .before .before .before .args in c .number .result ≡ refusalNumber (testedUnder (s .coefficients .now) (s .order) (s .edition) .refusal)
+why c = c .number .ensures ∙ ap (λ t. refusalNumber (t .refusal)) (answered (c .before))
 
 returns-2 : tie.Need-returns-2
 unfolding sentenceCall
@@ -27,8 +31,8 @@ returns-2 c =
     let n = c .before .before in
     let t = n .before in
     let s = t .before .before .before .args in
-    let u = tested (s .coefficients .now) (s .order) in
-    let e = got w32 (c .code .ok) (c .code .ensures) ∙ ap (λ t. pos (refusalNumber (t .refusal))) (t .silk-lpc-inverse-pred-gain .ensures) in
+    let u = testedUnder (s .coefficients .now) (s .order) (s .edition) in
+    let e = got w32 (c .code .ok) (c .code .ensures) ∙ ap (λ t. pos (refusalNumber (t .refusal))) (answered t) in
     rw (le-ltb (length (s .text .now)) 64 (t .before .if1 .left))
     ((λ i. record { answer = e i; slice = s .text .now })
     ∙ sym (refused (u .refusal) (sentenceOf (u .answer) .letters) (s .text .now) (λ z. c .before .if2 .taken (why n ∙ z))))
@@ -44,8 +48,8 @@ returns-3 c =
     let n = l .before .before in
     let t = n .before in
     let s = t .before .before .before .args in
-    let u = tested (s .coefficients .now) (s .order) in
-    let e = ap (λ x. x .letters) (l .sentence-of .ensures ∙ ap (λ t. sentenceOf (t .answer)) (t .silk-lpc-inverse-pred-gain .ensures)) in
+    let u = testedUnder (s .coefficients .now) (s .order) (s .edition) in
+    let e = ap (λ x. x .letters) (l .sentence-of .ensures ∙ ap (λ t. sentenceOf (t .answer)) (answered t)) in
     let m : length (sentenceOf (u .answer) .letters) ≡ 64 = sym (ap length e) ∙ letters-long l in
     rw (le-ltb (length (s .text .now)) 64 (t .before .if1 .left), p .put-letters .ensures, e)
     (sym (accepted (u .refusal) (sentenceOf (u .answer) .letters) (s .text .now) (sym (why n) ∙ l .before .if2 .left) ∙ rw m refl))

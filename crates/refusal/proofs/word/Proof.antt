@@ -1,26 +1,22 @@
-use Prim.Native.Nat.{_<_}
 use mathlib.Core.Path.{_≡_, refl}
 use native.Mathlib.Omega.{arith}
 use borrow.Author.Needs.{needs}
 use mathlib.Core.List.{List, [], _∷_, map}
-use lib.Dec.{lit<}
-use lib.ListN.{getD, replicate}
+use lib.ListN.{getD}
 use Rattle.refusal.specs.Refusals.{refusalNumber, refusalWord, textOf}
 use Rattle.refusal.specs.declared.Text.{Text}
 use Rattle.refusal.specs.declared.Refusal.{Refusal}
-use Rattle.refusal.specs.declared.Refusal.the-variants.{Nothing, Rate, Size, History, RunFull, Signal, Gain, Lag, Taps, Line, Pulses, Speaker, Length, Order}
+use Rattle.refusal.specs.declared.Refusal.the-variants.{Nothing, Rate, Size, History, RunFull, Signal, Gain, Lag, Taps, Line, Pulses, Speaker, Length, Order, Squelch, Weights, Channels, Place, Post, Waiting, Chain, Record, Edition, Limit}
+use Rattle.refusal.proofs.Words.{known}
 use Rattle.refusal.proofs.word.Statement.{statement}
 use Rattle.refusal.proofs.word.Tie as tie
 
-known : (r : Refusal) → refusalNumber r < 24
-known r = elim r [ Nothing ↦ lit< tt | Rate ↦ lit< tt | Size ↦ lit< tt | History ↦ lit< tt | RunFull ↦ lit< tt | Signal ↦ lit< tt | Gain ↦ lit< tt | Lag ↦ lit< tt | Taps ↦ lit< tt | Line ↦ lit< tt | Pulses ↦ lit< tt | Speaker ↦ lit< tt | Length ↦ lit< tt | Order ↦ lit< tt ]
-
--- the code's two tables, with nothing at a number that no row has
+-- the code's two tables
 abbrev texts : List Text
-texts = map (λ r. textOf (refusalWord r)) (Nothing ∷ Rate ∷ Size ∷ History ∷ RunFull ∷ Signal ∷ Gain ∷ Lag ∷ Taps ∷ Line ∷ Pulses ∷ Speaker ∷ Length ∷ Order ∷ replicate 10 Nothing)
+texts = map (λ r. textOf (refusalWord r)) (Nothing ∷ Rate ∷ Size ∷ History ∷ RunFull ∷ Signal ∷ Gain ∷ Lag ∷ Taps ∷ Line ∷ Pulses ∷ Speaker ∷ Length ∷ Order ∷ Squelch ∷ Weights ∷ Channels ∷ Place ∷ Post ∷ Waiting ∷ Chain ∷ Record ∷ Edition ∷ Limit ∷ [])
 
 read : (r : Refusal) → _≡_ {A = Text} (record { letters = getD (map (λ t. t .letters) texts) (refusalNumber r) []; len = getD (map (λ t. t .len) texts) (refusalNumber r) 0 }) (textOf (refusalWord r))
-read r = elim r [ Nothing ↦ refl | Rate ↦ refl | Size ↦ refl | History ↦ refl | RunFull ↦ refl | Signal ↦ refl | Gain ↦ refl | Lag ↦ refl | Taps ↦ refl | Line ↦ refl | Pulses ↦ refl | Speaker ↦ refl | Length ↦ refl | Order ↦ refl ]
+read r = elim r [ Nothing ↦ refl | Rate ↦ refl | Size ↦ refl | History ↦ refl | RunFull ↦ refl | Signal ↦ refl | Gain ↦ refl | Lag ↦ refl | Taps ↦ refl | Line ↦ refl | Pulses ↦ refl | Speaker ↦ refl | Length ↦ refl | Order ↦ refl | Squelch ↦ refl | Weights ↦ refl | Channels ↦ refl | Place ↦ refl | Post ↦ refl | Waiting ↦ refl | Chain ↦ refl | Record ↦ refl | Edition ↦ refl | Limit ↦ refl ]
 
 mul-letters : tie.Need-mul-letters
 mul-letters c = search needs

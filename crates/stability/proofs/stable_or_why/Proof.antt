@@ -11,8 +11,9 @@ use lib.Seq.{length-take-le}
 use lib.Signed.{leZ}
 use mir.Syntax.{w32}
 use mir.Val.{toZ, ofZ}
+use mir.Facts.{toZ-ofZ}
 use Rattle.word.proofs.Order.{tested}
-use Rattle.stability.specs.Stability.{aLimit, rfc8251, total, stability, stabilityBy}
+use Rattle.stability.specs.Stability.{aLimit, total, stability, stabilityBy}
 use Rattle.stability.proofs.Sums.{total-take}
 use Rattle.stability.proofs.Turns.{steps-cong}
 use Rattle.stability.proofs.stable_or_why.Statement.{statement}
@@ -45,9 +46,10 @@ returns-2 c =
     rw (
       c .lpc-inverse-pred-gain-qa .ensures,
       c .before .in-qa .ensures,
+      toZ-ofZ (s .fits .edition),
       l,
       sum-test p (c .before .before .if1 .left),
-      steps-cong aLimit rfc8251 (q ++ drop d (replicate 16 (pos 0))) q (pos (2 ^ 30)) (d - 1)
+      steps-cong aLimit (s .args .edition) (q ++ drop d (replicate 16 (pos 0))) q (pos (2 ^ 30)) (d - 1)
           (λ i h. List·getD-append q (drop d (replicate 16 (pos 0))) (pos 0) i (rw (length-map, l) (omega arith))),
     )
 

@@ -8,4 +8,4 @@ unfolding isStream
 returns c = cc
 
 pub is-stream-spec : {M : Type 1} → statement M
-is-stream-spec = tie.close (tie.spec (λ c κs. search needs) (λ c κs. search needs) (λ c κs. search needs) returns)
+is-stream-spec = tie.close (tie.spec (λ c. search needs) (λ c κs. search needs) (λ c κs. search needs) (λ c κs. search needs) returns)

@@ -4,7 +4,7 @@ use native.Mathlib.Omega.{arith}
 use lib.IntN.{pos}
 use lib.ListN.{length}
 use lib.Seq.{sets-eq}
-use Rattle.stream.specs.Bytes.{bytesOf}
+use Rattle.le.specs.Bytes.{bytesOf}
 use borrow.Author.Needs.{needs}
 use Rattle.stream.proofs.put4.Statement.{statement}
 use Rattle.stream.proofs.put4.Tie as tie

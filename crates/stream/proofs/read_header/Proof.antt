@@ -36,26 +36,26 @@ begun c =
 
 rated : (c : tie.Else3) → isRate (pos (getD (c .before .before .before .before .before .before .before .before .args .header .now) 8 0)) ≡ true
 rated c =
-    let s = c .before .before .signed8 in
+    let s = c .before .before .signed-byte in
     judged isRate (s .ok) (s .ensures) (c .before .is-rate .ensures) (not-false _ (c .if3 .left))
 
 counted : (c : tie.Else4) → isCount (pos (getD (c .before .before .before .before .before .before .before .before .before .before .before .args .header .now) 9 0)) ≡ true
 counted c =
-    let s = c .before .before .signed82 in
+    let s = c .before .before .signed-byte2 in
     judged isCount (s .ok) (s .ensures) (c .before .is-count .ensures) (not-false _ (c .if4 .left))
 
 returns-3 : tie.Need-returns-3
 unfolding openedOf
 returns-3 c =
     let p = begun (c .before .before .before .before .before) in
-    let s = c .before .before .signed8 in
+    let s = c .before .before .signed-byte in
     rw (p .0, p .1, judged isRate (s .ok) (s .ensures) (c .before .is-rate .ensures) (not-true _ (c .if3 .taken)))
 
 returns-4 : tie.Need-returns-4
 unfolding openedOf
 returns-4 c =
     let p = begun (c .before .before .before .before .before .before .before .before) in
-    let s = c .before .before .signed82 in
+    let s = c .before .before .signed-byte2 in
     rw (p .0, p .1, rated (c .before .before .before), judged isCount (s .ok) (s .ensures) (c .before .is-count .ensures) (not-true _ (c .if4 .taken)))
 
 returns-5 : tie.Need-returns-5

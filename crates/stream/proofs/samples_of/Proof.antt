@@ -28,8 +28,8 @@ returns c =
     let p = mul-le-mul u n in
     let s = f .before in
     let r = s .before .before in
-    let y = kept w32 (s .signed82 .result) (s .signed82 .ok) ∙ s .signed82 .ensures in
-    let x = kept w32 (r .signed8 .result) (r .signed8 .ok) ∙ r .signed8 .ensures in
+    let y = kept w32 (s .signed-byte2 .result) (s .signed-byte2 .ok) ∙ s .signed-byte2 .ensures in
+    let x = kept w32 (r .signed-byte .result) (r .signed-byte .ok) ∙ r .signed-byte .ensures in
     let e = f .frame-length .ensures ∙ λ i. frameLength (shape (x i) (y i)) in
     (λ i. c .u32-at .ensures i * e i, omega (arith, p))
 

@@ -60,7 +60,7 @@ returns c =
     let p : Shape = record { rate = r; subframes = a .n } in
     let len = 5 * r * a .n in
     let k = v .voice .result in
-    let e = rw (toZ-ofZ (s .fits .«loss-cnt»), toZ-ofZ (s .fits .«prev-signal-type»), toZ-ofZ (s .fits .khz)) at (v .voice .ensures) in
+    let e = rw (toZ-ofZ (s .fits .«loss-cnt»), toZ-ofZ (s .fits .«prev-signal-type»), toZ-ofZ (s .fits .edition), toZ-ofZ (s .fits .khz)) at (v .voice .ensures) in
     let o : a .d ≡ orderOf r = s .pre .2 in
     let g = kept w32 (getD (a .h .«prev_gain_q16») 1 (pos 0)) (y .before .before .synthesise-arg .given) in
     let f = got w32 (c .lag-of .ok) (c .lag-of .ensures) ∙ ap lagOf (kept w32 (k .«pitch_q8») (c .before .struct-told .given .1 .1 .0 .1)) in

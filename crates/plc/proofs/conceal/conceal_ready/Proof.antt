@@ -44,14 +44,14 @@ excitation-length c = search needs
 
 conceal-requires : tie.Need-conceal-requires
 conceal-requires c κs =
-    let x = c .before .before .before .before .before in
+    let x = c .before .before .before .before .before .before .before in
     let s = x .before .before .before .before .before .before .before .before in
     let a = s .args in
     let p = s .pre in
     let r = rateOf (a .khz) in
     let b = plc-held-bounds r (a .h) (p .9) in
     let l = excitation-length s in
-    let m : length (a .s .«out_buf») ≡ 480 = sym (slice-aggregate-conceal-2 (c .before .before .before)) in
+    let m : length (a .s .«out_buf») ≡ 480 = sym (slice-aggregate-conceal-2 (c .before .before .before .before)) in
     let q : Shape = record { rate = r; subframes = a .n } in
     rw (toZ-ofZ (s .fits .khz))
     (rw (place-is x, l) (noise-room q (a .s) (a .h) (rate-le (a .khz)) (subframes-fit r _ _ (b .subframes))), p .0, p .1, p .2, p .3, p .5, m, p .6, p .7, p .8, between-back _ (b .«pitch_l_q8»))
@@ -60,7 +60,7 @@ returns : tie.Need-returns
 unfolding coefficients voice signal concealed
 returns c =
     let x = c .before in
-    let y = x .before .before .before .before .before .before in
+    let y = x .before .before .before .before .before .before .before .before in
     let f = y .before .before in
     let s = f .before .before .before .before .before .before in
     let a = s .args in
@@ -73,10 +73,11 @@ returns c =
     let ea : f .coefficients .result ≡ coefficients q st h =
     f .coefficients .ensures ∙ rw (kept w32 (st .«first_frame_after_reset») (f .before .struct-told .given .1 .1 .1 .1 .1 .1 .1 .1 .1 .1 .1 .1 .0 .1), s .pre .1) in
     let ef = place-is y in
-    let el = kept w32 (st .«loss_cnt») (x .before .before .struct-told2 .given .1 .1 .1 .1 .1 .1 .1 .1 .1 .1 .1 .1 .1 .1 .0 .1) in
-    let et = kept w32 (st .«prev_signal_type») (x .before .struct-told3 .given .1 .1 .1 .1 .1 .1 .1 .1 .1 .1 .1 .1 .1 .1 .1 .0 .1) in (
-      ec ∙ (λ i. concealedBy q (voiceBy q (el i) (et i) (st .«exc_q14») (st .«out_buf») (ea i) (ef i) h) (st .«s_lpc_q14_buf») (ea i) h),
-      es ∙ (λ i. map (played (laterGain h)) (drop 16 (signalBy q (voiceBy q (el i) (et i) (st .«exc_q14») (st .«out_buf») (ea i) (ef i) h) (st .«s_lpc_q14_buf») (ea i))) ++ drop (5 * rateOf (a .khz) * a .n) (a .xq .now)),
+    let el = kept w32 (st .«loss_cnt») (x .before .before .before .struct-told2 .given .1 .1 .1 .1 .1 .1 .1 .1 .1 .1 .1 .1 .1 .1 .0 .1) in
+    let et = kept w32 (st .«prev_signal_type») (x .before .before .struct-told3 .given .1 .1 .1 .1 .1 .1 .1 .1 .1 .1 .1 .1 .1 .1 .1 .0 .1) in
+    let ee = kept w32 (st .settings .edition) (x .before .struct-told4 .given .1 .0 .1) in (
+      ec ∙ (λ i. concealedBy q (voiceBy q (el i) (et i) (ee i) (st .«exc_q14») (st .«out_buf») (ea i) (ef i) h) (st .«s_lpc_q14_buf») (ea i) h),
+      es ∙ (λ i. map (played (laterGain h)) (drop 16 (signalBy q (voiceBy q (el i) (et i) (ee i) (st .«exc_q14») (st .«out_buf») (ea i) (ef i) h) (st .«s_lpc_q14_buf») (ea i))) ++ drop (5 * rateOf (a .khz) * a .n) (a .xq .now)),
     )
 
 pub conceal-ready-spec : {M : Type 1} → statement M

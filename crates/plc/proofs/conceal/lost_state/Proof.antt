@@ -7,7 +7,7 @@ use lib.Signed.{mag}
 use mir.Syntax.{w32}
 use Rattle.word.specs.Int.{wrap32, eqℤ}
 use Rattle.word.proofs.Words.{kept}
-use Rattle.decoder.specs.Outcome.{build}
+use Rattle.decoder.specs.With.{withMemory, withLosses, withPlc}
 use Rattle.decoder.proofs.Between.{natural}
 use Rattle.plc.proofs.Ready.{one-more}
 use Rattle.plc.proofs.conceal.lost_state.Statement.{statement}
@@ -27,7 +27,7 @@ returns c =
     let n : z ≡ pos (natAbs z) = natural z (a .pre .0) in
     let m : wrap32 (z +ℤ pos 1) ≡ z +ℤ pos 1 = less z n told (a .pre .1) in
     let e : c .add32 .result ≡ z +ℤ pos 1 = c .add32 .ensures ∙ rw (kept w32 z told) m in
-    λ i. build s (s .«prev_gain_q16») (s .«exc_q14») (a .args .r .memory) (s .«out_buf») (s .«lag_prev») (s .«prev_nlsf_q15») (s .«first_frame_after_reset») (s .«s_cng») (e i) (s .«prev_signal_type») (a .args .r .plc)
+    λ i. withPlc (withLosses (withMemory s (a .args .r .memory)) (e i)) (a .args .r .plc)
 
 pub lost-state-spec : {M : Type 1} → statement M
 lost-state-spec =

@@ -23,12 +23,13 @@ unfolding noiseGain
 returns-2 c =
     let i = c .before in
     let a = i .before .before .before .before in
-    let g = inverse-gain (take (a .args .d) (a .args .a .now)) in
+    let g = inverse-gain (a .args .edition) (take (a .args .d) (a .args .a .now)) in
     rw (
       isnt w32 (a .args .«prev-signal-type») 2 (i .before .before .before .match .rest .1),
       is w32 _ 0 (lit< tt) (a .fits .«loss-cnt») (i .before .before .if1 .taken),
       got w32 (c .limited-gain .ok) (c .limited-gain .ensures),
       got w32 (i .inverse-pred-gain .ok) (i .inverse-pred-gain .ensures),
+      toZ-ofZ (a .fits .edition),
       g .1,
       limited-kept (g .0),
     )

@@ -8,7 +8,7 @@ use mir.Val.{toZ, ofZ}
 use Rattle.word.proofs.Words.{kept}
 use Rattle.shape.specs.Shape.{shape, rateOf, countOf, orderOf, frameLength}
 use Rattle.shape.proofs.Shapes.{rates, counts, shape-bounds, count-le}
-use Rattle.decoder.specs.Outcome.{build}
+use Rattle.decoder.specs.With.{withMemory, withLosses, withPlc}
 use Rattle.decoder.specs.State.{shapeOf}
 use Rattle.decoder.proofs.Bounds.{plc-bounds, plc-held-fits}
 use Rattle.plc.specs.Hold.{plcReady}
@@ -68,7 +68,7 @@ returns c =
     let e = rw (readied h, count n, khz k) at (x .conceal-ready .ensures .0) in
     let f = rw (readied h, count n, khz k) at (x .conceal-ready .ensures .1) in
     let state = l .lost-state .ensures
-    ∙ (λ i. build s (s .«prev_gain_q16») (s .«exc_q14») (e i .memory) (s .«out_buf») (s .«lag_prev») (s .«prev_nlsf_q15») (s .«first_frame_after_reset») (s .«s_cng») (s .«loss_cnt» +ℤ pos 1) (s .«prev_signal_type») (e i .plc)) in
+    ∙ (λ i. withPlc (withLosses (withMemory s (e i .memory)) (s .«loss_cnt» +ℤ pos 1)) (e i .plc)) in
     let control = c .lagged .ensures ∙ ap (lagged (b .args .c)) (kept w32 _ (c .before .struct-told3 .given .1 .1 .0 .1)) ∙ (λ i. lagged (b .args .c) (e i .lag)) in
     (λ i. record { state = state i; control = control i }, f)
 

@@ -36,6 +36,7 @@ returns c =
       rw z at (w .rewhitened .ensures),
       toZ-ofZ (s .fits .«loss-cnt»),
       toZ-ofZ (s .fits .«prev-signal-type»),
+      toZ-ofZ (s .fits .edition),
       s .pre .2,
     )
 

@@ -2,7 +2,7 @@ use mathlib.Core.Path.{_≡_}
 use mir.Syntax.{w32}
 use mir.Val.{toZ, ofZ}
 use Rattle.word.proofs.Words.{kept}
-use Rattle.decoder.specs.Outcome.{build}
+use Rattle.decoder.specs.With.{withType, withPlc}
 use Rattle.decoder.specs.State.{shapeOf}
 use Rattle.plc.specs.Update.{updatedBy, plcUpdate}
 use Rattle.plc.proofs.update.plc_update.Statement.{statement}
@@ -22,7 +22,7 @@ returns c =
     let khz = kept w32 (s .«fs_khz») (w .before .struct-told .given .1 .1 .1 .1 .1 .0 .1) in
     let type = c .type-number .ensures in
     let plc : u .received .result ≡ updatedBy (shapeOf s) (a .signal) (a .c) (a .rows) (s .«s_plc») = rw (u .received .ensures, khz, nb w) in
-    λ i. build s (s .«prev_gain_q16») (s .«exc_q14») (s .«s_lpc_q14_buf») (s .«out_buf») (s .«lag_prev») (s .«prev_nlsf_q15») (s .«first_frame_after_reset») (s .«s_cng») (s .«loss_cnt») (type i) (plc i)
+    λ i. withPlc (withType s (type i)) (plc i)
 
 pub plc-update-spec : {M : Type 1} → statement M
 plc-update-spec =

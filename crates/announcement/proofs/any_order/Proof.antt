@@ -1,0 +1,9 @@
+use Rattle.announcement.proofs.Taken.{any-order}
+use Rattle.announcement.proofs.any_order.Statement.{statement}
+use Rattle.announcement.proofs.any_order.Tie as tie
+
+returns : tie.Need-returns
+returns c = any-order
+
+pub any-order-spec : {M : Type 1} → statement M
+any-order-spec = tie.close (tie.spec returns)

@@ -1,0 +1,4 @@
+-- The definitions that the contracts cite.
+pub mod Record
+pub mod Recorded
+pub mod Claims

@@ -1,0 +1,2 @@
+-- The laws that other proofs cite.
+pub mod Ends
