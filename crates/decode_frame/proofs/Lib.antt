@@ -6,6 +6,3 @@ pub mod Kept
 pub mod Owned
 pub mod Noised
 pub mod Standard
-pub mod With
-pub mod Squelch
-pub mod Editions

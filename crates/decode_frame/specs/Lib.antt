@@ -2,6 +2,4 @@
 pub mod WholeFrame
 pub mod Call
 pub mod Answer
-pub mod Squelch
-pub mod Editions
 pub mod Standard

@@ -34,8 +34,6 @@ ghost use Rattle.decode_core.specs.Ready.{Framed};
 ghost use Rattle.decode_frame.specs.WholeFrame.{remembered, finished, received, lost, muted};
 ghost use Rattle.decode_frame.specs.Call.{frameCall};
 ghost use Rattle.decode_frame.specs.Answer.{frameAnswer, frameOutput};
-ghost use Rattle.decode_frame.specs.Squelch.{StateAsBefore, SamplesAsBefore, LostAsBefore, PlaysZeros};
-ghost use Rattle.decode_frame.specs.Editions.{ReceivedAlike};
 ghost use Rattle.decode_frame.specs.Standard.{FrameStandard};
 
 // The state and the description after a frame.
@@ -266,14 +264,4 @@ pub fn silk_decode_frame(
 // The excitation that a received frame leaves in the state is 64 times RFC 6716's. The claim has no code: it is a contract.
 pub fn frame_excitation()
     ensures { λ _. ⌜ FrameStandard ⌝ }
-{}
-
-// A squelch puts zeros in place of a lost frame's samples and changes nothing else. The claim has no code: it is a contract.
-pub fn squelch_silences()
-    ensures { λ _. ⌜ StateAsBefore × SamplesAsBefore × LostAsBefore × PlaysZeros ⌝ }
-{}
-
-// A received frame is the same under both editions. The claim has no code: it is a contract.
-pub fn received_alike()
-    ensures { λ _. ⌜ ReceivedAlike ⌝ }
 {}

@@ -23,17 +23,20 @@ use Rattle.layout.specs.Layout.{WORDS, HALVES, stateWords, stateHalves, withWor
 use Rattle.layout.specs.Frame.{COEFS}
 use Rattle.layout.proofs.Stored.{stored, words-count, halves-count}
 use Rattle.layout.proofs.Slices.{part-words, control-typed, rows-typed, call-long}
-use Rattle.slices.specs.Slices.{Slices}
-use Rattle.slices.specs.Whole.{playedOn}
-use Rattle.post.specs.Calls.{called}
+use Rattle.slices.specs.Slices.{Slices, unless}
+use Rattle.slices.specs.Whole.{playedOn, answered}
+use Rattle.post.specs.Calls.{Called, called}
 use Rattle.post.specs.Stages.{callShort, frameCall}
 use Rattle.linked.specs.Linked.{Held, stateOf, Linked, lentTo, callOf, broughtBy, heldIn, leftBy, lossesAfter}
 use Rattle.linked.specs.Claims.{TypedLinked}
 
 -- ---- an exported call
 module _ (short : Bool) (r : Refusal) (new lent : Slices) where
+  abbrev call : Called
+  call = called short (unless r new lent) lent
+
   -- one that answers 0 leaves the new slices
-  pub played : called short r new lent .answer ≡ pos 0 → (short ≡ false) × (refusalNumber r ≡ 0) × (called short r new lent .after ≡ new)
+  pub played : call .answer ≡ pos 0 → (short ≡ false) × (refusalNumber r ≡ 0) × (call .after ≡ new)
   unfolding called
   played = go short refl
     where
@@ -42,7 +45,7 @@ module _ (short : Bool) (r : Refusal) (new lent : Slices) where
       go false e z = let n = ap natAbs z in (e, n, rw n refl)
 
   -- any other leaves those lent
-  pub unplayed : eqℤ (called short r new lent .answer) (pos 0) ≡ false → called short r new lent .after ≡ lent
+  pub unplayed : eqℤ (call .answer) (pos 0) ≡ false → call .after ≡ lent
   unfolding called
   unplayed = go short (eqb (refusalNumber r) 0) refl
     where
@@ -51,7 +54,7 @@ module _ (short : Bool) (r : Refusal) (new lent : Slices) where
       go false true e z = absurd (false≢true (sym z ∙ e))
       go false false e z = refl
 
-  pub not-for-state : (khz nb : ℤ) → NotForState khz nb (pos (refusalNumber r)) → NotForState khz nb (called short r new lent .answer)
+  pub not-for-state : (khz nb : ℤ) → NotForState khz nb (pos (refusalNumber r)) → NotForState khz nb (call .answer)
   unfolding called
   not-for-state khz nb h = go short
     where
@@ -95,15 +98,15 @@ module _ (m : Held) (x : Linked) where
 
   -- one that answers 0
   pub frame-played : callOf m x .answer ≡ pos 0 → (callShort (lentTo m x) ≡ false) × (refusalNumber (frameRefusal (stateOf m) (broughtBy x)) ≡ 0) × (leftBy (callOf m x) ≡ storedIn m (stateAfter (stateOf m) (broughtBy x)))
-  unfolding frameCall playedOn stateAfter frameAnswer
+  unfolding frameCall answered playedOn stateAfter frameAnswer
   frame-played z = let p = played _ _ _ _ z in (p .0, p .1, ap heldIn (p .2))
 
   frame-unplayed : eqℤ (callOf m x .answer) (pos 0) ≡ false → leftBy (callOf m x) ≡ m
-  unfolding frameCall
+  unfolding frameCall answered
   frame-unplayed z = ap heldIn (unplayed _ _ _ _ z)
 
   pub frame-not-for-state : (khz nb : ℤ) → NotForState khz nb (pos (refusalNumber (frameRefusal (stateOf m) (broughtBy x)))) → NotForState khz nb (callOf m x .answer)
-  unfolding frameCall
+  unfolding frameCall answered
   frame-not-for-state khz nb h = not-for-state _ _ _ _ khz nb h
 
   module _ (t : TypedLinked x) (g : GoodHeld m) where

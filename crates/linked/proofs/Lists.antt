@@ -31,6 +31,7 @@ use Rattle.lists.proofs.Losses.{Counts, counts-after, set-up-counts}
 use Rattle.lists.proofs.Loud.{shape-after, lost-state, Quietens, fresh, quietens-after, Enough, long-enough, ordinary-enough, place-quiet}
 use Rattle.layout.specs.Layout.{part, one, stateIn, plcIn}
 use Rattle.layout.proofs.Slices.{state-typed, state-long}
+use Rattle.stages.specs.Stages.{setUpOn}
 use Rattle.post.specs.Stages.{setUpCall}
 use Rattle.linked.specs.Linked.{Held, stateOf, Linked, broughtBy, heldIn, At, linkedFrom}
 use Rattle.linked.specs.Claims.{TypedLinked, FromSetUp, FromAccepted, slicesAfter, LostPlayed, concealedIn, gainIn, lastFrame, gainHeld, sumHeld, CallQuiet, SlicesQuiet, LinkedHistory, LinkedLosses, LinkedAfter, LinkedQuiet, LinkedSooner}
@@ -53,7 +54,7 @@ module _ (R : SilkDecoderState → Losses → Type 0) (step : (s : SilkDecoderSt
 
 -- ---- where a list starts
 set-up-held : (m : Held) → FromSetUp m → GoodHeld m × Counts (stateOf m) noLosses
-unfolding setUpCall setUpWith
+unfolding setUpCall setUpOn setUpWith
 set-up-held m f =
     let p = played _ _ _ _ (f .answered) in
     let h = set-up-shaped (f .rate) (f .subframes) (f .settings) (p .1) in

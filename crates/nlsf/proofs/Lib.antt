@@ -7,6 +7,4 @@ pub mod Results
 pub mod Lines
 pub mod Values
 pub mod Polynomials
-pub mod Editions
-pub mod Stable
 pub mod Front

@@ -5,4 +5,3 @@ pub mod Lines
 pub mod Expand
 pub mod Fit
 pub mod Filter
-pub mod Editions

@@ -1,5 +1,5 @@
 // The filter from line frequencies (nlsf.rs, lpc_fit.rs, tables.rs).
-// Inner: every function but silk_nlsf2a, silk_nlsf2a_under, lsf_cos_kept, alike_filter and stable_filter.
+// Inner: every function but silk_nlsf2a, silk_nlsf2a_under and lsf_cos_kept.
 mod tables;
 
 use edition::NEWER;
@@ -38,7 +38,6 @@ ghost use Rattle.nlsf.specs.Lines.{negativeLine, lsfCosine, ordering, co
 ghost use Rattle.nlsf.specs.Expand.{nextFactor, bwexpander32};
 ghost use Rattle.nlsf.specs.Fit.{higher, maxabs, fitChirp, inQ12, rounded, saturated, lpcFit};
 ghost use Rattle.nlsf.specs.Filter.{roundChirp, stabilised, nlsf2a, nlsf2aRefusal, nlsf2aOf};
-ghost use Rattle.nlsf.specs.Editions.{AlikeFilter, StableFilter};
 
 // The largest coefficient without its sign, and its place.
 struct Peak {
@@ -396,13 +395,3 @@ pub fn silk_nlsf2a(a_q12: &mut [i16], nlsf: &[i16], d: usize) -> Refusal
 {
     silk_nlsf2a_under(a_q12, nlsf, d, NEWER)
 }
-
-// If no step of the stability test leaves 32 bits, both editions have the same filter.
-pub fn alike_filter()
-    ensures { λ _. ⌜ AlikeFilter ⌝ }
-{}
-
-// A filter from lines passes its own edition's stability test.
-pub fn stable_filter()
-    ensures { λ _. ⌜ StableFilter ⌝ }
-{}

@@ -1,23 +1,9 @@
 // The functions that a Rust or C program links. A contract is one equation: the answer and the slices at exit are those of the call's definition.
-use cng::silk_cng;
-use decode_core::silk_decode_core;
 use decoder::Settings;
-use glue::silk_plc_glue_frames;
-use layout::frame::control_in;
-use layout::frame::keep_lags;
-use layout::frame::keep_taps;
-use layout::frame::params_in;
-use layout::frame::rows_in;
 use layout::frame::short_call;
 use layout::frame::short_frame;
-use layout::frame::tapless;
-use layout::keep_state;
 use layout::short_state;
-use layout::state_in;
-use plc::conceal::silk_plc_lost;
-use plc::update::silk_plc_received;
 use refusal::code;
-use slices::play_frame;
 ghost use mathlib.Core.Path.{_≡_};
 ghost use mathlib.Core.List.{[]};
 ghost use lib.IntN.{pos};
@@ -41,11 +27,7 @@ fn set_up(
     if short_state(words.len(), halves.len()) {
         return -1;
     }
-    let a = decoder::set_up_with(rate, subframes, settings);
-    let refusal = a.refusal;
-    let fresh = a.state;
-    keep_state(refusal, fresh, words, halves);
-    code(refusal)
+    code(stages::set_up(rate, subframes, settings, words, halves))
 }
 
 // Set-up with the default settings.
@@ -94,7 +76,7 @@ pub extern "C" fn post_frame(
     if short_call(words.len(), halves.len(), frame.len(), coefs.len()) {
         return -1;
     }
-    code(play_frame(words, halves, frame, coefs, pulses, output))
+    code(slices::play_frame(words, halves, frame, coefs, pulses, output))
 }
 
 #[no_mangle]
@@ -120,18 +102,7 @@ pub extern "C" fn post_core(
     if short_call(words.len(), halves.len(), frame.len(), coefs.len()) {
         return -1;
     }
-    let s = state_in(words, halves);
-    let q = params_in(frame);
-    let c = control_in(frame, coefs);
-    let rows = rows_in(coefs);
-    let a = silk_decode_core(s, q, c, rows, pulses, output);
-    let refusal = a.refusal;
-    let decoded = a.state;
-    let decoded_control = a.control;
-    keep_state(refusal, decoded, words, halves);
-    keep_lags(refusal, decoded_control, frame);
-    keep_taps(refusal, decoded_control, coefs);
-    code(refusal)
+    code(stages::core(words, halves, frame, coefs, pulses, output))
 }
 
 #[no_mangle]
@@ -147,15 +118,7 @@ pub extern "C" fn post_plc_received(
     if short_call(words.len(), halves.len(), frame.len(), coefs.len()) {
         return -1;
     }
-    let s = state_in(words, halves);
-    let q = params_in(frame);
-    let c = control_in(frame, coefs);
-    let rows = rows_in(coefs);
-    let a = silk_plc_received(s, q, c, rows);
-    let refusal = a.refusal;
-    let updated = a.state;
-    keep_state(refusal, updated, words, halves);
-    code(refusal)
+    code(stages::plc_received(words, halves, frame, coefs))
 }
 
 #[no_mangle]
@@ -171,15 +134,7 @@ pub extern "C" fn post_plc_lost(
     if short_frame(words.len(), halves.len(), frame.len()) {
         return -1;
     }
-    let s = state_in(words, halves);
-    let c = tapless(frame);
-    let a = silk_plc_lost(s, c, output);
-    let refusal = a.refusal;
-    let concealed = a.state;
-    let concealed_control = a.control;
-    keep_state(refusal, concealed, words, halves);
-    keep_lags(refusal, concealed_control, frame);
-    code(refusal)
+    code(stages::plc_lost(words, halves, frame, output))
 }
 
 #[no_mangle]
@@ -195,12 +150,7 @@ pub extern "C" fn post_glue(
     if short_state(words.len(), halves.len()) {
         return -1;
     }
-    let s = state_in(words, halves);
-    let a = silk_plc_glue_frames(s, buffer, n);
-    let refusal = a.refusal;
-    let glued = a.state;
-    keep_state(refusal, glued, words, halves);
-    code(refusal)
+    code(stages::glue(words, halves, buffer, n))
 }
 
 #[no_mangle]
@@ -217,11 +167,5 @@ pub extern "C" fn post_noise(
     if short_frame(words.len(), halves.len(), frame.len()) {
         return -1;
     }
-    let s = state_in(words, halves);
-    let c = tapless(frame);
-    let a = silk_cng(s, c, buffer, n);
-    let refusal = a.refusal;
-    let noised = a.state;
-    keep_state(refusal, noised, words, halves);
-    code(refusal)
+    code(stages::noise(words, halves, frame, buffer, n))
 }

@@ -1,6 +1,8 @@
 -- The slices of a call on a state and a frame.
 use mathlib.Core.List.{List}
 use lib.IntN.{ℤ}
+use Rattle.refusal.specs.Refusals.{ifAccepted}
+use Rattle.refusal.specs.declared.Refusal.{Refusal}
 use Rattle.decoder.specs.declared.SilkDecoderState.{SilkDecoderState}
 use Rattle.decoder.specs.declared.SilkDecoderControl.{SilkDecoderControl}
 use Rattle.layout.specs.Layout.{stateIn, withWords, withHalves}
@@ -34,3 +36,12 @@ module _ (m : Slices) where
   abbrev pub withControl : SilkDecoderState → SilkDecoderControl → List ℤ → Slices
   withControl s c output =
       slices (withWords (m .words) s) (withHalves (m .halves) s) (withLags (m .frame) c) (withTaps (m .coefs) c) (m .pulses) output
+
+-- why a call is turned down, and the slices after it
+pub record Answered : Type 0 where
+  pub refusal : Refusal
+  pub after : Slices
+
+-- a call that is refused leaves the slices as they were lent
+abbrev pub unless : Refusal → Slices → Slices → Answered
+unless r new lent = record { refusal = r; after = ifAccepted r new lent }

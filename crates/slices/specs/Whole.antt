@@ -3,7 +3,6 @@ use Prim.Native.Nat.{ℕ}
 use mathlib.Core.List.{List}
 use lib.IntN.{ℤ}
 use Rattle.refusal.specs.First.{firstOf}
-use Rattle.refusal.specs.Refusals.{ifAccepted}
 use Rattle.refusal.specs.declared.Refusal.{Refusal}
 use Rattle.decoder.specs.declared.Frame.{Frame}
 use Rattle.judge.specs.Rows.{frameRows}
@@ -11,7 +10,7 @@ use Rattle.decode_frame.specs.Call.{Call, frameCall}
 use Rattle.decode_frame.specs.Answer.{frameRefusal, frameAnswer, frameOutput}
 use Rattle.layout.specs.Layout.{stateIn}
 use Rattle.layout.specs.Frame.{frameIn, rateIn, subframesIn, controlIn, rowsIn, linesIn}
-use Rattle.slices.specs.Slices.{Slices, stateOf, controlOf, withControl}
+use Rattle.slices.specs.Slices.{Slices, stateOf, controlOf, withControl, Answered, unless}
 
 -- why a frame in slices is turned down where so many pulses and samples are lent
 unfoldable pub refusalIn : (words halves frame coefs : List ℤ) → ℕ → ℕ → Refusal
@@ -30,13 +29,6 @@ module _ (f : Frame) (m : Slices) where
       let a = frameAnswer (stateOf m) wholeCall in
       withControl m (a .state) (a .control) (frameOutput (stateOf m) wholeCall)
 
--- why a frame is turned down, and the slices after it
-pub record Answered : Type 0 where
-  pub refusal : Refusal
-  pub after : Slices
-
--- a frame f that is refused leaves the slices as they are
+-- a frame f on what the slices hold beside it
 unfoldable pub answered : Frame → Slices → Answered
-answered f m =
-    let r = frameRefusal (stateOf m) (wholeCall f m) in
-    record { refusal = r; after = ifAccepted r (playedOn f m) m }
+answered f m = unless (frameRefusal (stateOf m) (wholeCall f m)) (playedOn f m) m

@@ -1,4 +1,3 @@
 -- The definitions that the contracts cite.
 pub mod Stability
 pub mod Limit
-pub mod Editions

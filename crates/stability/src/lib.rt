@@ -1,5 +1,5 @@
 // The stability test of a short-term filter (lpc_analysis.rs).
-// Inner: every function but silk_lpc_inverse_pred_gain, silk_lpc_inverse_pred_gain_under, same_answer, editions_alike and older_fits.
+// Inner: every function but silk_lpc_inverse_pred_gain, silk_lpc_inverse_pred_gain_under and same_answer.
 use edition::NEWER;
 use edition::OLDER;
 use edition::is_edition;
@@ -27,7 +27,6 @@ ghost use Rattle.word.specs.Int.{eqℤ, wrap32};
 ghost use Rattle.edition.specs.Edition.{older};
 ghost use Rattle.stability.specs.Stability.{aLimit, reflection, rcMult1, nextGain, bitLength, mulQ, rcMult2, stepDown, stepped, nextCoefficients, fits32, allFit, step, steps, total, stability, inverseGain, testRefusal, testedUnder, tested, answerNumber, answerValue};
 ghost use Rattle.stability.specs.Limit.{SameAnswer};
-ghost use Rattle.stability.specs.Editions.{EditionsAlike, OlderFits};
 
 const A_LIMIT: i32 = 16773022;
 
@@ -251,16 +250,6 @@ pub fn inverse_pred_gain(a: &[i16], order: usize, edition: i32) -> i32
 // A lower limit changes no answer but those that become a step's coefficient.
 pub fn same_answer()
     ensures { λ _. ⌜ SameAnswer ⌝ }
-{}
-
-// If no step leaves 32 bits, both editions answer alike.
-pub fn editions_alike()
-    ensures { λ _. ⌜ EditionsAlike ⌝ }
-{}
-
-// The older edition never answers that a step left 32 bits.
-pub fn older_fits()
-    ensures { λ _. ⌜ OlderFits ⌝ }
 {}
 
 fn refusal_of(n: usize, order: usize, edition: i32) -> Refusal

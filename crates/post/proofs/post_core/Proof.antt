@@ -1,72 +1,30 @@
-use Prim.Native.Nat.{_≤_}
-use mathlib.Core.Path.{sym, _∙_}
-use native.Mathlib.Omega.{arith}
+use mathlib.Core.Path.{_≡_, sym, _∙_}
+use mathlib.Core.Bool.{false}
 use lib.ListN.{length}
 use mir.Syntax.{w32}
 use Rattle.word.proofs.Words.{kept}
-use Rattle.decode_core.specs.Answer.{coreAnswer, coreOutput}
-use Rattle.layout.specs.Layout.{WORDS, HALVES, stateIn}
-use Rattle.layout.specs.Frame.{FRAME, COEFS, paramsIn, controlIn, rowsIn}
-use Rattle.layout.proofs.Slices.{call-long}
-use Rattle.slices.proofs.Ends.{again}
+use Rattle.layout.specs.Frame.{shortCall}
 use Rattle.post.specs.Calls.{called}
 use Rattle.post.specs.Stages.{coreCall}
-use Rattle.post.proofs.Ends.{control-ended}
+use Rattle.post.proofs.Ends.{ended}
 use Rattle.post.proofs.post_core.Statement.{statement}
 use Rattle.post.proofs.post_core.Tie as tie
 
--- the lengths of the slices
-long : (c : tie.Else1) → let a = c .before .before .args in (WORDS ≤ length (a .words .now)) × (HALVES ≤ length (a .halves .now)) × (FRAME ≤ length (a .frame .now)) × (COEFS ≤ length (a .coefs .now))
-long c =
-    let a = c .before .before .args in
-    call-long (length (a .words .now)) (length (a .halves .now)) (length (a .frame .now)) (length (a .coefs .now)) (sym (c .before .short-call .ensures) ∙ c .if1 .left)
+-- no slice is too short
+long : (c : tie.Else1) → let a = c .before .before .args in shortCall (length (a .words .now)) (length (a .halves .now)) (length (a .frame .now)) (length (a .coefs .now)) ≡ false
+long c = sym (c .before .short-call .ensures) ∙ c .if1 .left
 
 returns : tie.Need-returns
 unfolding coreCall called
 returns c = rw (sym (c .before .short-call .ensures) ∙ c .if1 .taken)
 
-state-in-requires : tie.Need-state-in-requires
-state-in-requires c κs = let l = long (c .before .before) in (l .0, l .1)
-
-params-in-requires : tie.Need-params-in-requires
-params-in-requires c κs = long (c .before .before .before .before) .2
-
-control-in-requires : tie.Need-control-in-requires
-control-in-requires c κs = let l = long (c .before .before .before .before .before .before .before) in (l .2, omega (arith, l .3))
-
-rows-in-requires : tie.Need-rows-in-requires
-rows-in-requires c κs = long (c .before .before .before .before .before .before .before .before .before) .3
-
-keep-state-requires : tie.Need-keep-state-requires
-keep-state-requires c κs = let l = long (c .before .before .before .before .before .before .before .before .before .before .before .before .before .before .before .before .before) in (l .0, l .1)
-
-keep-lags-requires : tie.Need-keep-lags-requires
-keep-lags-requires c κs = long (c .before .before .before .before .before .before .before .before .before .before .before .before .before .before .before .before .before .before .before .before .before) .2
-
-keep-taps-requires : tie.Need-keep-taps-requires
-keep-taps-requires c κs = long (c .before .before .before .before .before .before .before .before .before .before .before .before .before .before .before .before .before .before .before .before .before .before .before .before) .3
+core-requires : tie.Need-core-requires
+core-requires c κs = long (c .before .before .before .before .before)
 
 returns-2 : tie.Need-returns-2
-unfolding coreCall coreAnswer coreOutput
+unfolding coreCall
 returns-2 c =
-    let k = c .before .before .before .before .before .before .before .before .before .before .before .before .before .before .before .before .before .before .before .before .before .before .before .before .before .before .before in
-    let a = k .before .before .args in
-    let x = c .before .before .before .before .before .before .before .before .before .before .before .before .before .before .before .before .before .before .before .before .before .before .before .before .state-in .ensures in
-    let q = c .before .before .before .before .before .before .before .before .before .before .before .before .before .before .before .before .before .before .before .before .before .before .params-in .ensures in
-    let y = c .before .before .before .before .before .before .before .before .before .before .before .before .before .before .before .before .before .before .before .control-in .ensures in
-    let z = c .before .before .before .before .before .before .before .before .before .before .before .before .before .before .before .before .before .rows-in .ensures in
-    let e = c .before .before .before .before .before .before .before .before .before .before .before .before .before .before .before .silk-decode-core .ensures in
-    let d = coreAnswer (stateIn (a .words .now) (a .halves .now)) (paramsIn (a .frame .now)) (controlIn (a .frame .now) (a .coefs .now)) (rowsIn (a .coefs .now)) (a .pulses .now) (a .output .now) in
-    let r = e .0 ∙ λ i. coreAnswer (x i) (q i) (y i) (z i) (a .pulses .now) (a .output .now) in
-    control-ended _ _ _ _ _ _ _ _ (λ i. r i .refusal) (λ i. r i .state) (λ i. r i .control)
-    (sym (k .before .short-call .ensures) ∙ k .if1 .left)
-    (kept w32 _ (c .code .ok) ∙ c .code .ensures)
-    (c .before .before .before .before .before .before .before .before .before .keep-state .ensures)
-    (c .before .before .before .before .before .keep-lags .ensures)
-    (c .before .before .keep-taps .ensures)
-    (e .1 ∙ (λ i. coreOutput (x i) (q i) (y i) (z i) (a .pulses .now) (a .output .now)) ∙ again (d .refusal) _ _)
+    ended _ _ (long (c .before .before .before .before .before .before .before .before .before .before .before .before)) (kept w32 _ (c .code .ok) ∙ c .code .ensures) (c .before .before .before .before .before .before .core .ensures)
 
 pub post-core-spec : {M : Type 1} → statement M
-post-core-spec =
-    tie.close
-    (tie.spec (λ c κs. tt) returns state-in-requires params-in-requires control-in-requires rows-in-requires (λ c κs. tt) keep-state-requires keep-lags-requires keep-taps-requires (λ c κs. tt) (λ c. c .before .before .before .before .before .before .before .before .before .keep-state .kept .1 .1 .0) (λ c. c .before .before .before .before .before .before .before .before .before .keep-state .kept .1 .1 .1 .0) (λ c. c .before .before .before .before .before .keep-lags .kept .1 .1 .0) (λ c. c .before .before .keep-taps .kept .1 .1 .0) (λ c. c .before .before .before .before .before .before .before .before .before .before .before .before .before .before .before .silk-decode-core .kept .1 .1 .1 .1 .1 .0) returns-2)
+post-core-spec = tie.close (tie.spec (λ c κs. tt) returns core-requires (λ c κs. tt) (λ c. c .before .before .before .before .before .before .core .kept .0) (λ c. c .before .before .before .before .before .before .core .kept .1 .0) (λ c. c .before .before .before .before .before .before .core .kept .1 .1 .0) (λ c. c .before .before .before .before .before .before .core .kept .1 .1 .1 .0) (λ c. c .before .before .before .before .before .before .core .kept .1 .1 .1 .1 .1 .0) returns-2)

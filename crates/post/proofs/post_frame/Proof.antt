@@ -1,12 +1,9 @@
 use mathlib.Core.Path.{_≡_, sym, _∙_}
 use mathlib.Core.Bool.{false}
-use lib.IntN.{pos}
 use lib.ListN.{length}
 use mir.Syntax.{w32}
 use Rattle.word.proofs.Words.{kept}
-use Rattle.refusal.specs.Refusals.{refusalNumber}
 use Rattle.layout.specs.Frame.{shortCall}
-use Rattle.slices.specs.Whole.{answered}
 use Rattle.post.specs.Calls.{called}
 use Rattle.post.specs.Stages.{frameCall}
 use Rattle.post.proofs.Ends.{ended}
@@ -25,10 +22,9 @@ play-frame-requires : tie.Need-play-frame-requires
 play-frame-requires c κs = long (c .before .before .before .before .before)
 
 returns-2 : tie.Need-returns-2
-unfolding frameCall answered
+unfolding frameCall
 returns-2 c =
-    let p = c .before .before .before .before .before .before .play-frame .ensures in
-    ended _ _ _ (long (c .before .before .before .before .before .before .before .before .before .before .before .before)) (kept w32 _ (c .code .ok) ∙ c .code .ensures ∙ λ i. pos (refusalNumber (p i .refusal))) (λ i. p i .after)
+    ended _ _ (long (c .before .before .before .before .before .before .before .before .before .before .before .before)) (kept w32 _ (c .code .ok) ∙ c .code .ensures) (c .before .before .before .before .before .before .play-frame .ensures)
 
 pub post-frame-spec : {M : Type 1} → statement M
 post-frame-spec = tie.close (tie.spec (λ c κs. tt) returns play-frame-requires (λ c κs. tt) (λ c. c .before .before .before .before .before .before .play-frame .kept .0) (λ c. c .before .before .before .before .before .before .play-frame .kept .1 .0) (λ c. c .before .before .before .before .before .before .play-frame .kept .1 .1 .0) (λ c. c .before .before .before .before .before .before .play-frame .kept .1 .1 .1 .0) (λ c. c .before .before .before .before .before .before .play-frame .kept .1 .1 .1 .1 .1 .0) returns-2)

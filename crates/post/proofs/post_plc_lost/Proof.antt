@@ -1,70 +1,30 @@
-use Prim.Native.Nat.{_≤_}
-use mathlib.Core.List.{[]}
-use mathlib.Core.Path.{sym, _∙_}
-use lib.IntN.{pos}
+use mathlib.Core.Path.{_≡_, sym, _∙_}
+use mathlib.Core.Bool.{false}
 use lib.ListN.{length}
 use mir.Syntax.{w32}
 use Rattle.word.proofs.Words.{kept}
-use Rattle.refusal.specs.Refusals.{refusalNumber, ifAccepted}
-use Rattle.plc.specs.Answer.{plcLost, plcLostOutput}
-use Rattle.layout.specs.Layout.{WORDS, HALVES, stateIn, withWords, withHalves}
-use Rattle.layout.specs.Frame.{FRAME, tapless, withLags}
-use Rattle.layout.proofs.Slices.{frame-long}
-use Rattle.slices.specs.Slices.{slices}
-use Rattle.slices.proofs.Ends.{same, again, ended as after}
+use Rattle.layout.specs.Frame.{shortFrame}
 use Rattle.post.specs.Calls.{called}
 use Rattle.post.specs.Stages.{plcLostCall}
 use Rattle.post.proofs.Ends.{ended}
 use Rattle.post.proofs.post_plc_lost.Statement.{statement}
 use Rattle.post.proofs.post_plc_lost.Tie as tie
 
--- the lengths of the slices
-long : (c : tie.Else1) → let a = c .before .before .args in (WORDS ≤ length (a .words .now)) × (HALVES ≤ length (a .halves .now)) × (FRAME ≤ length (a .frame .now))
-long c =
-    let a = c .before .before .args in
-    frame-long (length (a .words .now)) (length (a .halves .now)) (length (a .frame .now)) (sym (c .before .short-frame .ensures) ∙ c .if1 .left)
+-- no slice is too short
+long : (c : tie.Else1) → let a = c .before .before .args in shortFrame (length (a .words .now)) (length (a .halves .now)) (length (a .frame .now)) ≡ false
+long c = sym (c .before .short-frame .ensures) ∙ c .if1 .left
 
 returns : tie.Need-returns
 unfolding plcLostCall called
 returns c = rw (sym (c .before .short-frame .ensures) ∙ c .if1 .taken)
 
-state-in-requires : tie.Need-state-in-requires
-state-in-requires c κs = let l = long (c .before .before) in (l .0, l .1)
-
-tapless-requires : tie.Need-tapless-requires
-tapless-requires c κs = long (c .before .before .before .before) .2
-
-keep-state-requires : tie.Need-keep-state-requires
-keep-state-requires c κs = let l = long (c .before .before .before .before .before .before .before .before .before .before .before .before) in (l .0, l .1)
-
-keep-lags-requires : tie.Need-keep-lags-requires
-keep-lags-requires c κs = long (c .before .before .before .before .before .before .before .before .before .before .before .before .before .before .before .before) .2
+plc-lost-requires : tie.Need-plc-lost-requires
+plc-lost-requires c κs = long (c .before .before .before .before)
 
 returns-2 : tie.Need-returns-2
-unfolding plcLostCall plcLost plcLostOutput
+unfolding plcLostCall
 returns-2 c =
-    let k = c .before .before .before .before .before .before .before .before .before .before .before .before .before .before .before .before .before .before .before in
-    let a = k .before .before .args in
-    let x = c .before .before .before .before .before .before .before .before .before .before .before .before .before .before .before .before .state-in .ensures in
-    let y = c .before .before .before .before .before .before .before .before .before .before .before .before .before .before .tapless .ensures in
-    let e = c .before .before .before .before .before .before .before .before .before .before .before .before .silk-plc-lost .ensures in
-    let d = plcLost (stateIn (a .words .now) (a .halves .now)) (tapless (a .frame .now)) (a .output .now) in
-    let r = e .0 ∙ λ i. plcLost (x i) (y i) (a .output .now) in
-    let g = c .before .before .before .before .before .before .keep-state .ensures in
-    let m = slices (a .words .now) (a .halves .now) (a .frame .now) [] [] (a .output .now) in
-    let new = slices (withWords (a .words .now) (d .state)) (withHalves (a .halves .now) (d .state)) (withLags (a .frame .now) (d .control)) [] [] (plcLostOutput (stateIn (a .words .now) (a .halves .now)) (tapless (a .frame .now)) (a .output .now)) in
-    ended (d .refusal) new m
-    (sym (k .before .short-frame .ensures) ∙ k .if1 .left)
-    (kept w32 _ (c .code .ok) ∙ c .code .ensures ∙ λ i. pos (refusalNumber (r i .refusal)))
-    (after (d .refusal) new m
-    (g .0 ∙ λ i. ifAccepted (r i .refusal) (withWords (a .words .now) (r i .state)) (a .words .now))
-    (g .1 ∙ λ i. ifAccepted (r i .refusal) (withHalves (a .halves .now) (r i .state)) (a .halves .now))
-    (c .before .before .keep-lags .ensures ∙ λ i. ifAccepted (r i .refusal) (withLags (a .frame .now) (r i .control)) (a .frame .now))
-    (same (d .refusal) _)
-    (same (d .refusal) _)
-    (e .1 ∙ (λ i. plcLostOutput (x i) (y i) (a .output .now)) ∙ again (d .refusal) _ _))
+    ended _ _ (long (c .before .before .before .before .before .before .before .before .before .before)) (kept w32 _ (c .code .ok) ∙ c .code .ensures) (c .before .before .before .before .before .plc-lost .ensures)
 
 pub post-plc-lost-spec : {M : Type 1} → statement M
-post-plc-lost-spec =
-    tie.close
-    (tie.spec (λ c κs. tt) returns state-in-requires tapless-requires (λ c κs. tt) keep-state-requires keep-lags-requires (λ c κs. tt) (λ c. c .before .before .before .before .before .before .keep-state .kept .1 .1 .0) (λ c. c .before .before .before .before .before .before .keep-state .kept .1 .1 .1 .0) (λ c. c .before .before .keep-lags .kept .1 .1 .0) (λ c. c .before .before .before .before .before .before .before .before .before .before .before .before .silk-plc-lost .kept .1 .1 .0) returns-2)
+post-plc-lost-spec = tie.close (tie.spec (λ c κs. tt) returns plc-lost-requires (λ c κs. tt) (λ c. c .before .before .before .before .before .plc-lost .kept .0) (λ c. c .before .before .before .before .before .plc-lost .kept .1 .0) (λ c. c .before .before .before .before .before .plc-lost .kept .1 .1 .0) (λ c. c .before .before .before .before .before .plc-lost .kept .1 .1 .1 .0) returns-2)

@@ -1,63 +1,30 @@
-use Prim.Native.Nat.{_≤_}
-use mathlib.Core.Path.{sym, _∙_}
-use native.Mathlib.Omega.{arith}
+use mathlib.Core.Path.{_≡_, sym, _∙_}
+use mathlib.Core.Bool.{false}
 use lib.ListN.{length}
 use mir.Syntax.{w32}
 use Rattle.word.proofs.Words.{kept}
-use Rattle.plc.specs.Answer.{plcReceived}
-use Rattle.layout.specs.Layout.{WORDS, HALVES, stateIn}
-use Rattle.layout.specs.Frame.{FRAME, COEFS, paramsIn, controlIn, rowsIn}
-use Rattle.layout.proofs.Slices.{call-long}
-use Rattle.slices.proofs.Ends.{same}
+use Rattle.layout.specs.Frame.{shortCall}
 use Rattle.post.specs.Calls.{called}
 use Rattle.post.specs.Stages.{plcReceivedCall}
-use Rattle.post.proofs.Ends.{state-ended}
+use Rattle.post.proofs.Ends.{ended}
 use Rattle.post.proofs.post_plc_received.Statement.{statement}
 use Rattle.post.proofs.post_plc_received.Tie as tie
 
--- the lengths of the slices
-long : (c : tie.Else1) → let a = c .before .before .args in (WORDS ≤ length (a .words .now)) × (HALVES ≤ length (a .halves .now)) × (FRAME ≤ length (a .frame .now)) × (COEFS ≤ length (a .coefs .now))
-long c =
-    let a = c .before .before .args in
-    call-long (length (a .words .now)) (length (a .halves .now)) (length (a .frame .now)) (length (a .coefs .now)) (sym (c .before .short-call .ensures) ∙ c .if1 .left)
+-- no slice is too short
+long : (c : tie.Else1) → let a = c .before .before .args in shortCall (length (a .words .now)) (length (a .halves .now)) (length (a .frame .now)) (length (a .coefs .now)) ≡ false
+long c = sym (c .before .short-call .ensures) ∙ c .if1 .left
 
 returns : tie.Need-returns
 unfolding plcReceivedCall called
 returns c = rw (sym (c .before .short-call .ensures) ∙ c .if1 .taken)
 
-state-in-requires : tie.Need-state-in-requires
-state-in-requires c κs = let l = long (c .before .before) in (l .0, l .1)
-
-params-in-requires : tie.Need-params-in-requires
-params-in-requires c κs = long (c .before .before .before) .2
-
-control-in-requires : tie.Need-control-in-requires
-control-in-requires c κs = let l = long (c .before .before .before .before) in (l .2, omega (arith, l .3))
-
-rows-in-requires : tie.Need-rows-in-requires
-rows-in-requires c κs = long (c .before .before .before .before .before) .3
-
-keep-state-requires : tie.Need-keep-state-requires
-keep-state-requires c κs = let l = long (c .before .before .before .before .before .before .before .before .before .before) in (l .0, l .1)
+plc-received-requires : tie.Need-plc-received-requires
+plc-received-requires c κs = long (c .before .before)
 
 returns-2 : tie.Need-returns-2
 unfolding plcReceivedCall
 returns-2 c =
-    let k = c .before .before .before .before .before .before .before .before .before .before .before .before .before .before in
-    let a = k .before .before .args in
-    let x = c .before .before .before .before .before .before .before .before .before .before .before .state-in .ensures in
-    let q = c .before .before .before .before .before .before .before .before .before .before .params-in .ensures in
-    let y = c .before .before .before .before .before .before .before .before .before .control-in .ensures in
-    let z = c .before .before .before .before .before .before .before .before .rows-in .ensures in
-    let d = plcReceived (stateIn (a .words .now) (a .halves .now)) (paramsIn (a .frame .now)) (controlIn (a .frame .now) (a .coefs .now)) (rowsIn (a .coefs .now)) in
-    let r = c .before .before .before .before .before .before .before .silk-plc-received .ensures ∙ λ i. plcReceived (x i) (q i) (y i) (z i) in
-    state-ended _ _ _ _ _ _ (λ i. r i .refusal) (λ i. r i .state)
-    (sym (k .before .short-call .ensures) ∙ k .if1 .left)
-    (kept w32 _ (c .code .ok) ∙ c .code .ensures)
-    (c .before .before .before .keep-state .ensures)
-    (same (d .refusal) _)
+    ended _ _ (long (c .before .before .before .before .before .before)) (kept w32 _ (c .code .ok) ∙ c .code .ensures) (c .before .before .before .plc-received .ensures)
 
 pub post-plc-received-spec : {M : Type 1} → statement M
-post-plc-received-spec =
-    tie.close
-    (tie.spec (λ c κs. tt) returns state-in-requires params-in-requires control-in-requires rows-in-requires (λ c κs. tt) keep-state-requires (λ c κs. tt) (λ c. c .before .before .before .keep-state .kept .1 .1 .0) (λ c. c .before .before .before .keep-state .kept .1 .1 .1 .0) returns-2)
+post-plc-received-spec = tie.close (tie.spec (λ c κs. tt) returns plc-received-requires (λ c κs. tt) (λ c. c .before .before .before .plc-received .kept .0) (λ c. c .before .before .before .plc-received .kept .1 .0) returns-2)

@@ -1,9 +1,0 @@
-use Rattle.decode_frame.proofs.Squelch.{state-as-before, samples-as-before, lost-as-before, plays-zeros}
-use Rattle.decode_frame.proofs.squelch_silences.Statement.{statement}
-use Rattle.decode_frame.proofs.squelch_silences.Tie as tie
-
-returns : tie.Need-returns
-returns c = (state-as-before, samples-as-before, lost-as-before, plays-zeros)
-
-pub squelch-silences-spec : {M : Type 1} → statement M
-squelch-silences-spec = tie.close (tie.spec returns)

@@ -1,0 +1,4 @@
+-- The laws that the claims' proofs share.
+mod With
+mod Squelch
+mod Editions

@@ -1,9 +1,0 @@
-use Rattle.nlsf.proofs.Editions.{alike-filter}
-use Rattle.nlsf.proofs.alike_filter.Statement.{statement}
-use Rattle.nlsf.proofs.alike_filter.Tie as tie
-
-returns : tie.Need-returns
-returns c = alike-filter
-
-pub alike-filter-spec : {M : Type 1} → statement M
-alike-filter-spec = tie.close (tie.spec returns)

@@ -1,9 +1,0 @@
-use Rattle.nlsf.proofs.Stable.{stable-filter}
-use Rattle.nlsf.proofs.stable_filter.Statement.{statement}
-use Rattle.nlsf.proofs.stable_filter.Tie as tie
-
-returns : tie.Need-returns
-returns c = stable-filter
-
-pub stable-filter-spec : {M : Type 1} → statement M
-stable-filter-spec = tie.close (tie.spec returns)

@@ -1,9 +1,0 @@
-use Rattle.stability.proofs.Editions.{older-fits}
-use Rattle.stability.proofs.older_fits.Statement.{statement}
-use Rattle.stability.proofs.older_fits.Tie as tie
-
-returns : tie.Need-returns
-returns c = older-fits
-
-pub older-fits-spec : {M : Type 1} → statement M
-older-fits-spec = tie.close (tie.spec returns)
