@@ -1,0 +1,3 @@
+-- The laws that the proofs cite, here and in other crates.
+pub mod Back
+pub mod Answers
