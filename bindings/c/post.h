@@ -1,15 +1,16 @@
 /* The yard post's SILK back end: a frame's decoded parameters in, its samples out.
  *
- * `rt staticlib post` builds it (target/staticlib/libpost.a), and `rt staticlib post_filters` the
- * functions of filters (target/staticlib/libpost_filters.a); either archive may be linked alone.
- * Both are for x86-64 Linux alone. They call memcpy and memset and nothing else, and have no
- * variables of their own: calls on different states may run at the same time. A call takes up to
- * 31,496 bytes of stack (docs/BENCHMARKS.md).
+ * `rt staticlib post` builds it (target/staticlib/libpost.a), `rt staticlib post_filters` the
+ * functions of filters (target/staticlib/libpost_filters.a) and `rt staticlib post_load` those of the
+ * load (target/staticlib/libpost_load.a); any of the archives may be linked, alone or with others. They
+ * are for x86-64 Linux alone. They call memcpy and memset and nothing else, and have no variables of
+ * their own: calls on different states may run at the same time. A call takes up to 31,496 bytes of
+ * stack (docs/BENCHMARKS.md).
  *
  * A slice is a pointer and the count of its elements. The slices of one call may not overlap, not
  * even pulses and output: the proofs rest on it.
  *
- * Every function but post_played answers one of
+ * Every function but post_played, post_load_leap and post_load_undoing answers one of
  *     0           done
  *    -1           a slice is shorter than its POST_ size below
  *     1 to 22     the first refusal that applies (enum post_refusal)
@@ -111,7 +112,8 @@ enum post_refusal {
     POST_LINE = 9,         /* a line frequency is negative */
     POST_PULSES = 10,      /* fewer than 5rn pulses */
     POST_SPEAKER = 11,     /* fewer than 5rn samples of output */
-    POST_LENGTH = 12,      /* gluing or noise alone: length 0, above 320 or above the buffer */
+    POST_LENGTH = 12,      /* gluing or noise alone: length 0, above 320 or above the buffer; load:
+                              number above 2,147,483,646 */
     POST_ORDER = 13,       /* stability: order not 1 to 16; filter: not 10 or 16; or a slice of
                               coefficients or lines is shorter than it */
     POST_SQUELCH = 14,     /* set-up: squelch not in 0 to 10,000; in a state it is 3 */
@@ -203,6 +205,30 @@ int32_t post_cosine(size_t place, int32_t *value, size_t value_len);
  * least 3 above the last, and the last at most 32,765; else 0, also for a negative line. post_filter
  * never refuses rising lines by 9. Refused by 17. */
 int32_t post_rising(const int16_t *lines, size_t lines_len, size_t order, int32_t *answer, size_t answer_len);
+
+/* The functions of the load, in libpost_load.a: frames that are drawn from a seed with the step of
+ * silk_rand, so that anyone can make them again. A draw is the generator's value after the step. A frame
+ * takes POST_LOAD_DRAWS draws, lost or not, one for each of its numbers, in the order of a record: received,
+ * signal, offset, interpolation, seed, lags, gains, rows, taps, scale, lines, 320 pulses. Each is scaled
+ * into its range: from a, with s values, it is a plus the unsigned draw times s over 2^32, rounded down.
+ * Received has 0 and 1; lags have 2r to 18r, whatever the signal; taps have -6,553 to 6,553; seed, rows and
+ * pulses have every value of 8 or 16 bits. */
+enum { POST_LOAD_DRAWS = 402 };
+
+/* Frame number of a load, from 0, where the generator was at seed before frame 0. A lost one has its numbers
+ * too. pulses has 320 places. post_frame refuses none of the frames 0 to 2,147,483,646 in their order, nor
+ * from any of them on, if the post was set up for the shape and output has 5rn samples. Refused by 1, 2, 12;
+ * by -1 for a slice that is shorter. */
+int32_t post_load_frame(int32_t rate, int32_t subframes, int32_t seed, uint32_t number,
+                        int32_t *frame, size_t frame_len, int16_t *coefs, size_t coefs_len,
+                        int16_t *pulses, size_t pulses_len);
+
+/* The generator after so many draws from seed on: the value itself, and no refusal. The load that begins at
+ * frame k of a seed is that of the seed post_load_leap(seed, 402 k). */
+int32_t post_load_leap(int32_t seed, uint64_t draws);
+
+/* The count of draws, 1 to 2^32, that undoes as many: after both the generator is where it was. */
+uint64_t post_load_undoing(uint64_t draws);
 
 #ifdef __cplusplus
 }
