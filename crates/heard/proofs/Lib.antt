@@ -1,0 +1,2 @@
+-- The laws that the proofs cite, here and in other crates.
+pub mod Laws

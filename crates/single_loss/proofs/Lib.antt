@@ -1,0 +1,3 @@
+-- The laws that the proofs cite, here and in other crates.
+pub mod Smallest
+pub mod Answers
