@@ -1,5 +1,7 @@
 // What the announcement writer asks of a line vector (document 02, Note 6): an entry of the cosine table, and whether the lines rise.
 // Inner: apart and is_rising.
+#![tactic(auto)]
+
 ghost use Rattle.std.specs.Prelude.{◌≡◌, ◌≤◌, pos, nat_abs, ◌+ℤ◌, length};
 ghost use Rattle.std.specs.Int.Signed.{le_z};
 ghost use Rattle.announcement.specs.Cosine.{cosine_at};
@@ -10,13 +12,13 @@ use nlsf::{lsf_cos, lsf_cos_half};
 use refusal::Refusal;
 use word::{add32, wide16};
 
-#[derive(Drop)]
+#[derive(Clone, Copy)]
 pub struct Cosine {
     pub refusal: Refusal,
     pub value: i16,
 }
 
-#[derive(Drop)]
+#[derive(Clone, Copy)]
 pub struct Rising {
     pub refusal: Refusal,
     pub rising: bool,

@@ -1,4 +1,6 @@
 // Document 01's test bench. The claim has no code: it is a contract.
+#![tactic(auto)]
+
 ghost use Rattle.std.specs.Prelude.{◌≡◌, true};
 ghost use Rattle.word.specs.Row.{agree};
 ghost use Rattle.bench.specs.Bench.{bench, EachRow};

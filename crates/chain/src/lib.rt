@@ -1,5 +1,7 @@
 // The chain of a recording's records.
 // Inner: every function.
+#![tactic(auto)]
+
 ghost use Rattle.std.specs.Prelude.{◌≡◌, true, ◌+◌, ◌*◌, ◌≤◌, ◌<◌, length, take, replicate};
 ghost use Rattle.chain.specs.Chain.{is_whole, next_of, is_among, Chain, chain_of, order_of};
 ghost use Rattle.chain.specs.Claims.{ChainMeans, FewFrames};
@@ -7,7 +9,7 @@ ghost use Rattle.chain.specs.Claims.{ChainMeans, FewFrames};
 use le::u16_at;
 
 // The records of a chain's frames, in order.
-#[derive(Drop)]
+#[derive(Clone, Copy)]
 pub struct Order {
     pub broken: bool,
     pub frames: usize,

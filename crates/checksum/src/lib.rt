@@ -1,5 +1,7 @@
 // A check sum of numbers: in 32 bits, times the prime of FNV, and the next number added.
 // Inner: every function.
+#![tactic(auto)]
+
 ghost use Rattle.std.specs.Prelude.{◌≡◌};
 ghost use Rattle.checksum.specs.Sum.{mixed, sum_of};
 

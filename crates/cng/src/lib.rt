@@ -1,5 +1,7 @@
 // Comfort noise (cng.rs).
 // Inner: every function but silk_cng and announced.
+#![tactic(auto)]
+
 ghost use Rattle.std.specs.Prelude.{◌≡◌, true, false, cond, ◌⊎◌, ◌++◌, ◌+◌, ◌-◌, ◌*◌, ◌^◌, ◌≤◌, ◌<◌, pos, ◌+ℤ◌, length, drop, get_or, replicate};
 ghost use Rattle.word.specs.Int.{floor_div, mod_ℤ, eq_ℤ, sat16};
 ghost use Rattle.word.specs.Tabulate.{tabulate};
@@ -21,7 +23,7 @@ use sigproc::{copy32_at, played_sample, synthesis};
 use word::{add32, bits32, low16, shl32, shr32, sub32, wide16};
 
 // The largest gain and its place.
-#[derive(Drop)]
+#[derive(Clone, Copy)]
 struct Peak {
     gain: i32,
     place: usize,

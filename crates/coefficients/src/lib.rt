@@ -1,12 +1,14 @@
 // An edition and coefficients on a line of text, read byte by byte: up to 17 whole numbers of 16 bits, with blanks or commas between them.
 // Inner: every function.
+#![tactic(auto)]
+
 ghost use Rattle.std.specs.Prelude.{◌≡◌, true, cond, min, ◌<◌, ◌≤◌, pos, replicate};
 ghost use Rattle.coefficients.specs.Line.{between, blank, is_blank, number, fits, stored, worse, ended, minus, digit, fed};
 
 use word::{low16, neg32};
 
 // The numbers so far, and the one that is being read.
-#[derive(Drop)]
+#[derive(Clone, Copy)]
 pub struct Entry {
     pub a: [i16; 17],
     pub count: usize,

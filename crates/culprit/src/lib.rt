@@ -1,6 +1,8 @@
 // The first frame whose loss alone brings a played sample beyond a limit in size. The state before each frame is kept, so that frames before a loss
 // are not played again.
 // Inner: every function.
+#![tactic(auto)]
+
 ghost use Rattle.std.specs.Prelude.{◌≡◌, false, ◌&&◌, ◌∷◌, map, ◌+◌, ◌*◌, ◌≤◌, ◌<◌, get_or, length, take, drop};
 ghost use Rattle.record.specs.Recorded.{lost};
 ghost use Rattle.recording.specs.Frames.{recorded_at, Inside};
@@ -11,7 +13,7 @@ use decoder::SilkDecoderState;
 use heard::{heard_at, lost_heard};
 
 // A frame by its number, counted from 1.
-#[derive(Drop)]
+#[derive(Clone, Copy)]
 pub enum Culprit {
     Frame(usize),
     None,

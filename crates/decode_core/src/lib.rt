@@ -1,5 +1,7 @@
 // A received frame, from its excitation through long-term and short-term synthesis (decode_core.rs).
 // Inner: every function but silk_decode_core and core_excitation.
+#![tactic(auto)]
+
 ghost use Rattle.std.specs.Prelude.{◌≡◌, true, cond, not, ◌&&◌, ◌⊎◌, [], map, ◌++◌, ◌+◌, ◌-◌, ◌*◌, ◌≤◌, ◌<◌, pos, nat_abs, length, take, drop, get_or, replicate};
 ghost use Rattle.std.specs.Int.Signed.{lt_z};
 ghost use Rattle.word.specs.Int.{eq_ℤ};
@@ -27,14 +29,14 @@ use sigproc::{
 use word::{shl32, wide8, wide16};
 
 // What a frame leaves beside its samples.
-#[derive(Drop)]
+#[derive(Clone, Copy)]
 struct CoreState {
     state: SilkDecoderState,
     control: SilkDecoderControl,
 }
 
 // What the subframes of a frame share. A transition is a frame that is not voiced after the loss of a voiced one.
-#[derive(Drop)]
+#[derive(Clone, Copy)]
 pub struct Setting {
     pub subfr_length: usize,
     pub ltp_mem_length: usize,
@@ -46,7 +48,7 @@ pub struct Setting {
 }
 
 // What the subframes carry on beside their buffers: idx places of the long-term state are in use.
-#[derive(Drop)]
+#[derive(Clone, Copy)]
 pub struct Carried {
     pub control: SilkDecoderControl,
     pub gain: i32,

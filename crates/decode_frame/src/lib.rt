@@ -1,4 +1,6 @@
 // The whole frame (decode_frame.rs).
+#![tactic(auto)]
+
 ghost use Rattle.std.specs.Prelude.{◌≡◌, true, false, cond, [], ◌≤◌, pos, nat_abs, length, replicate};
 ghost use Rattle.word.specs.Int.{eq_ℤ};
 ghost use Rattle.shape.specs.Shape.{is_rate, is_count, rate_of, count_of, frame_length};
@@ -23,7 +25,7 @@ use shape::Rate;
 use sigproc::{update_out_buf, with_front};
 
 // The state and the description after a frame.
-#[derive(Drop)]
+#[derive(Clone, Copy)]
 struct Played {
     state: SilkDecoderState,
     control: SilkDecoderControl,

@@ -1,5 +1,7 @@
 // The decoder's state and frame description (decoder_structs.rs, define.rs), set-up, and the played part of the output.
 // Inner: every function but set_up, set_up_with, played and same_shape.
+#![tactic(auto)]
+
 ghost use Rattle.std.specs.Prelude.{◌≡◌, cond, ◌&&◌, ◌||◌, ◌<◌, ◌≤◌, ℤ, pos, length, take, replicate};
 ghost use Rattle.word.specs.Int.{eq_ℤ};
 ghost use Rattle.shape.specs.Shape.{rate_of, shape};
@@ -19,7 +21,7 @@ use shape::Rate;
 use word::{mul32, sum64, wide, wide16};
 
 // Comfort noise's part of the state.
-#[derive(Drop)]
+#[derive(Clone, Copy)]
 pub struct SilkCNGState {
     pub cng_exc_buf_q14: [i32; 320],
     pub cng_smth_nlsf_q15: [i16; 16],
@@ -30,7 +32,7 @@ pub struct SilkCNGState {
 }
 
 // Concealment's part of the state.
-#[derive(Drop)]
+#[derive(Clone, Copy)]
 pub struct SilkPLCState {
     pub pitch_l_q8: i32,
     pub ltp_coef_q14: [i16; 5],
@@ -48,13 +50,13 @@ pub struct SilkPLCState {
 }
 
 // What set-up names and no frame changes.
-#[derive(Drop)]
+#[derive(Clone, Copy)]
 pub struct Settings {
     pub squelch: i32,
     pub edition: i32,
 }
 
-#[derive(Drop)]
+#[derive(Clone, Copy)]
 pub struct SilkDecoderState {
     pub prev_gain_q16: i32,
     pub exc_q14: [i32; 320],
@@ -77,7 +79,7 @@ pub struct SilkDecoderState {
 }
 
 // A frame's description: lags, gains, taps and LTP scale. Its two coefficient rows stand beside it.
-#[derive(Drop)]
+#[derive(Clone, Copy)]
 pub struct SilkDecoderControl {
     pub pitch_l: [i32; 4],
     pub gains_q16: [i32; 4],
@@ -86,7 +88,7 @@ pub struct SilkDecoderControl {
 }
 
 // The signal type; what Other is, its number decides.
-#[derive(Drop)]
+#[derive(Clone, Copy)]
 pub enum Signal {
     NoVoiceActivity,
     Unvoiced,
@@ -95,7 +97,7 @@ pub enum Signal {
 }
 
 // The small numbers of a received frame.
-#[derive(Drop)]
+#[derive(Clone, Copy)]
 pub struct Params {
     pub signal: Signal,
     pub quant_offset_type: i8,
@@ -103,21 +105,21 @@ pub struct Params {
     pub seed: i8,
 }
 
-#[derive(Drop)]
+#[derive(Clone, Copy)]
 pub enum Frame {
     Received(Params),
     Lost,
 }
 
 // The answer of a call that gives a new state: refused, the one lent.
-#[derive(Drop)]
+#[derive(Clone, Copy)]
 pub struct StateAnswer {
     pub refusal: Refusal,
     pub state: SilkDecoderState,
 }
 
 // The answer of a call that gives a new state and a new description: refused, those lent.
-#[derive(Drop)]
+#[derive(Clone, Copy)]
 pub struct Answer {
     pub refusal: Refusal,
     pub state: SilkDecoderState,

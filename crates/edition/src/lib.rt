@@ -1,5 +1,7 @@
 // Editions of the standard, by the number of their RFC.
 // Inner: every function.
+#![tactic(auto)]
+
 ghost use Rattle.std.specs.Prelude.{◌≡◌};
 ghost use Rattle.edition.specs.Edition.{is_edition};
 

@@ -1,4 +1,6 @@
 // What the editions change of the stability test and of the filter from lines. The claims have no code: each is a contract.
+#![tactic(auto)]
+
 ghost use Rattle.editions.specs.Tests.{EditionsAlike, OlderFits};
 ghost use Rattle.editions.specs.Filters.{AlikeFilter, StableFilter};
 

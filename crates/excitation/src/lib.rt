@@ -1,5 +1,7 @@
 // A received frame's excitation (decode_core.rs).
 // Inner: every function.
+#![tactic(auto)]
+
 ghost use Rattle.std.specs.Prelude.{◌≡◌, ◌≤◌, nat_abs, length};
 ghost use Rattle.excitation.specs.Excitation.{offset_q14, level, excited, excitation};
 

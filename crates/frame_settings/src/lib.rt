@@ -1,4 +1,6 @@
 // What squelch and edition change of a whole frame. The claims have no code: each is a contract.
+#![tactic(auto)]
+
 ghost use Rattle.frame_settings.specs.Squelch.{StateAsBefore, SamplesAsBefore, LostAsBefore, PlaysZeros};
 ghost use Rattle.frame_settings.specs.Editions.{ReceivedAlike};
 

@@ -1,5 +1,7 @@
 // The draws of silk_rand, leaps over them, and draws scaled into a range.
 // Inner: every function but leap_of, undoing and leaps.
+#![tactic(auto)]
+
 ghost use Rattle.std.specs.Prelude.{◌≡◌, cond, ◌-◌, ◌%◌, ◌<◌, eqb, pos, ◌+ℤ◌, length};
 ghost use Rattle.std.specs.Int.{w8, w16, w32};
 ghost use Rattle.std.proofs.Common.{SFits};
@@ -12,7 +14,7 @@ use macros::silk_rand;
 use word::{add32, bits32, mul32, wide};
 
 // A map from x to factor x + term, in 32 bits.
-#[derive(Drop)]
+#[derive(Clone, Copy)]
 pub struct Leap {
     pub factor: i32,
     pub term: i32,

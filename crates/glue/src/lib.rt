@@ -1,5 +1,7 @@
 // Gluing of the first frame after a loss (plc.rs, silk_plc_glue_frames).
 // Inner: every function but silk_plc_glue_frames.
+#![tactic(auto)]
+
 ghost use Rattle.std.specs.Prelude.{◌≡◌, cond, ◌^◌, ◌-◌, ◌≤◌, ◌<◌, pos, nat_abs, ◌+ℤ◌, ◌-ℤ◌, ◌*ℤ◌, length, take, drop};
 ghost use Rattle.std.specs.Int.Signed.{quot_z};
 ghost use Rattle.word.specs.Int.{eq_ℤ, wrap16, wrap32, floor_div};

@@ -1,5 +1,7 @@
 // A recorded frame played on a state, and whether a sample of it is beyond a limit in size.
 // Inner: every function.
+#![tactic(auto)]
+
 ghost use Rattle.std.specs.Prelude.{◌≡◌, ◌+◌, ◌*◌, ◌≤◌, ◌<◌, length, take};
 ghost use Rattle.shape.specs.Shape.{shape, frame_length};
 ghost use Rattle.record.specs.Recorded.{lost};
@@ -12,7 +14,7 @@ use playback::{lost_sound, sound_at};
 use shape::frame_length;
 use word::{abs32, wide16};
 
-#[derive(Drop)]
+#[derive(Clone, Copy)]
 pub struct Heard {
     pub state: SilkDecoderState,
     pub loud: bool,

@@ -1,5 +1,7 @@
 // How a state and a frame lie in the slices that a program lends.
 // Inner: every function but put_is_read.
+#![tactic(auto)]
+
 pub mod frame;
 
 ghost use Rattle.std.specs.Prelude.{◌≡◌, ◌+◌, ◌≤◌, pos, length, replicate};

@@ -1,5 +1,7 @@
 // Numbers as bytes, the lowest byte first.
 // Inner: every function.
+#![tactic(auto)]
+
 ghost use Rattle.std.specs.Prelude.{◌≡◌, ◌+◌, ◌*◌, ◌≤◌, ◌<◌, pos, length, drop, replicate};
 ghost use Rattle.std.specs.Int.{w8, w16, w32};
 ghost use Rattle.word.specs.Int.{wrap, mod_ℤ};

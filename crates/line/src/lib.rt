@@ -1,12 +1,14 @@
 // The numbers of a line of text, read byte by byte; all else in it is passed over.
 // Inner: every function.
+#![tactic(auto)]
+
 ghost use Rattle.std.specs.Prelude.{◌≡◌, false, pos, replicate};
 ghost use Rattle.line.specs.Line.{blank, signed, begun, stored, ended, digit, fed};
 
 use word::{add32, mul32, neg32};
 
 // The first 64 numbers of a line, and the number that is being read.
-#[derive(Drop)]
+#[derive(Clone, Copy)]
 pub struct Line {
     pub row: [i32; 64],
     pub count: usize,

@@ -1,4 +1,6 @@
 // Demand 3, with document 02, Note 12, and Note 6 for a program that links the library. The claims have no code: each is a contract.
+#![tactic(auto)]
+
 ghost use Rattle.linked.specs.Claims.{LinkedHistory, LinkedLosses, LinkedQuiet, LinkedSooner};
 ghost use Rattle.linked.specs.Announced.{AnnouncedLinked, LinesSeen};
 

@@ -1,5 +1,7 @@
 // A listener behind a two-state link: how many frames it hears, and how.
 // Inner: every function.
+#![tactic(auto)]
+
 ghost use Rattle.std.specs.Prelude.{◌≡◌, cond, not, ◌&&◌, suc, ◌+◌, ◌≤◌, ◌<◌, length, take, replicate};
 ghost use Rattle.std.proofs.Math.Seq.{paste};
 ghost use Rattle.generator.specs.Draws.{unsigned};
@@ -10,13 +12,13 @@ use macros::silk_rand;
 use word::bits32;
 
 // After a frame the good state is left if the top 16 bits of a draw are below its number, and so is the bad one.
-#[derive(Drop)]
+#[derive(Clone, Copy)]
 pub struct Link {
     pub leave_good: u16,
     pub leave_bad: u16,
 }
 
-#[derive(Drop)]
+#[derive(Clone, Copy)]
 pub struct Counts {
     pub received: u32,
     pub concealed: u32,
@@ -24,7 +26,7 @@ pub struct Counts {
 }
 
 // The counts of sixteen listeners.
-#[derive(Drop)]
+#[derive(Clone, Copy)]
 pub struct Rows {
     pub received: [u32; 16],
     pub concealed: [u32; 16],

@@ -1,4 +1,6 @@
 // Answers each line of standard input: a leap, the draws that undo others, or a frame of a load.
+#![tactic(auto)]
+
 ghost use Rattle.std.specs.Prelude.{◌≡◌, pos, replicate};
 
 use checksum::{sum16, sum32};

@@ -1,4 +1,6 @@
 // Lists of a load's frames. The claims have no code: each is a contract.
+#![tactic(auto)]
+
 ghost use Rattle.load_lists.specs.Claims.{LoadPlayed, AnyLosses};
 
 // No frame of a load is refused by a post that was set up for its shape, wherever the load starts and whichever frames are lost.

@@ -1,5 +1,7 @@
 // Fixed-point arithmetic of macros.rs, and silk_smultt of cng.rs.
 // Inner: every function.
+#![tactic(auto)]
+
 ghost use Rattle.std.specs.Prelude.{◌≡◌, ◌^◌, ◌≤◌, ◌/◌, ◌%◌, pos, nat_abs, ◌+ℤ◌, ◌-ℤ◌, ◌*ℤ◌};
 ghost use Rattle.std.specs.Int.Signed.{quot_z};
 ghost use Rattle.std.specs.Int.{w32};
@@ -137,7 +139,7 @@ pub fn silk_clz32(a: i32) -> i32
     u32::leading_zeros(bits32(a)) as i32
 }
 
-#[derive(Drop)]
+#[derive(Clone, Copy)]
 pub struct ClzFrac {
     pub lz: i32,
     pub frac_q7: i32,

@@ -1,5 +1,7 @@
 // Makes a yard recording of the first frames of a recorded stream, at most 59: standard input has the stream, standard output gets the recording,
 // standard error the report, whose last line counts the frames, or says why there is no recording.
+#![tactic(auto)]
+
 ghost use Rattle.std.specs.Prelude.{◌≡◌, ◌≤◌, replicate};
 
 use decoder::Frame;
@@ -11,7 +13,7 @@ use refusal::{Refusal, number};
 use stream::{Head, Opened, no_bytes, read_header};
 
 // What became of a record: its frame is recorded or refused; or the file ends within it, or its kind is unknown.
-#[derive(Drop)]
+#[derive(Clone, Copy)]
 enum Ended {
     Recorded,
     Refused(Refusal),
@@ -20,7 +22,7 @@ enum Ended {
 }
 
 // A record's bytes but for the samples that end it; of a lost frame's, the kind alone.
-#[derive(Drop)]
+#[derive(Clone, Copy)]
 struct Record {
     bytes: [u8; 817],
     whole: bool,

@@ -1,5 +1,7 @@
 // The filter from line frequencies (nlsf.rs, lpc_fit.rs, tables.rs).
 // Inner: every function but silk_nlsf2a, silk_nlsf2a_under and lsf_cos_kept.
+#![tactic(auto)]
+
 mod tables;
 
 ghost use Rattle.std.specs.Prelude.{◌≡◌, true, false, ◌⊎◌, ◌++◌, min, ◌+◌, ◌-◌, ◌/◌, ◌%◌, ◌≤◌, ◌<◌, pos, nat_abs, length, drop, replicate};
@@ -22,7 +24,7 @@ use tables::{ORDERING10, ORDERING16, SILK_LSF_COS_TAB_FIX_Q12};
 use word::{abs32, add32, low16, mul32, neg32, sat16, shl32, sub32, wide16};
 
 // The largest coefficient without its sign, and its place.
-#[derive(Drop)]
+#[derive(Clone, Copy)]
 struct Peak {
     size: i32,
     place: usize,

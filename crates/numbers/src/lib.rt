@@ -1,5 +1,7 @@
 // A frame put into the numbers in which every exported call takes one.
 // Inner: every function.
+#![tactic(auto)]
+
 ghost use Rattle.std.specs.Prelude.{◌≡◌, cond, [], ◌∷◌, ◌++◌, ◌≤◌, pos, length};
 ghost use Rattle.sigproc.specs.Place.{put_at};
 ghost use Rattle.numbers.specs.Numbers.{small_numbers, frame_numbers, coef_numbers};

@@ -1,5 +1,7 @@
 // Plays a recorded stream: standard input has the stream, standard output gets a WAV file, standard error the report.
 // The report has the stream's rate and seconds; its last line counts the frames, if the whole stream was played, else it says why not.
+#![tactic(auto)]
+
 ghost use Rattle.std.specs.Prelude.{◌≡◌, ◌+◌, ◌≤◌, ◌<◌, replicate};
 ghost use Rattle.play.specs.Play.{sound_of, how_of, total, counted_of};
 
@@ -13,7 +15,7 @@ use refusal::Refusal;
 use stream::{Head, Opened, no_bytes, read_header, samples_bytes, silence, wav_header};
 
 // A record's frame: why it is refused, the new state, and its samples as bytes.
-#[derive(Drop)]
+#[derive(Clone, Copy)]
 struct Sound {
     refusal: Refusal,
     state: SilkDecoderState,
@@ -42,7 +44,7 @@ fn played(s: SilkDecoderState, rate: i32, subframes: i32, b: &[u8; 817]) -> Soun
 
 // What became of a record: its frame was played, concealed or refused; or the file ends within it, its kind is unknown,
 // or its samples could not be written.
-#[derive(Drop)]
+#[derive(Clone, Copy)]
 enum Ended {
     Received,
     Concealed,
@@ -52,7 +54,7 @@ enum Ended {
     Unwritten,
 }
 
-#[derive(Drop)]
+#[derive(Clone, Copy)]
 struct Tally {
     received: u32,
     concealed: u32,
@@ -82,7 +84,7 @@ fn counted(t: Tally, e: Ended) -> Tally
 }
 
 // A record's bytes but for the samples that end it; of a lost frame's, the kind alone.
-#[derive(Drop)]
+#[derive(Clone, Copy)]
 struct Record {
     bytes: [u8; 817],
     whole: bool,
@@ -124,7 +126,7 @@ fn write_samples(bytes: [u8; 640], n: usize) -> bool
     io::write_all(STDOUT_FILENO, &bytes[..n])
 }
 
-#[derive(Drop)]
+#[derive(Clone, Copy)]
 struct Turn {
     state: SilkDecoderState,
     ended: Ended,

@@ -1,5 +1,7 @@
 // Plays a yard recording: standard input has it, standard output gets its samples, 16 bits each, low byte first, standard error the report,
 // whose last line counts the frames, or says why nothing is played.
+#![tactic(auto)]
+
 ghost use Rattle.std.specs.Prelude.{◌≡◌, ◌≤◌, length};
 
 use le::put16s;

@@ -1,5 +1,7 @@
 // Yard recordings: the player.
 // Inner: every function but play.
+#![tactic(auto)]
+
 ghost use Rattle.std.specs.Prelude.{◌≡◌, ◌++◌, map, ◌+◌, ◌-◌, ◌*◌, ◌/◌, ◌≤◌, ◌<◌, pos, length, take, drop, replicate};
 ghost use Rattle.record.specs.Recorded.{lost, recorded_in};
 ghost use Rattle.recording.specs.Frames.{recorded_at, Inside};
@@ -16,7 +18,7 @@ use refusal::{Refusal, first, number};
 use sigproc::copy16_at;
 
 // A frame's state and samples, of which the first 5rn are played.
-#[derive(Drop)]
+#[derive(Clone, Copy)]
 pub struct Sound {
     pub state: SilkDecoderState,
     pub samples: [i16; 320],
@@ -139,7 +141,7 @@ fn most(bytes: usize) -> usize
 }
 
 // What was played: why not, the frames received and concealed, and the samples.
-#[derive(Drop)]
+#[derive(Clone, Copy)]
 pub struct Played {
     pub refusal: Refusal,
     pub received: usize,

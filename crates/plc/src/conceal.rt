@@ -240,7 +240,7 @@ fn rewhiten(
 }
 
 // What a subframe carries on beside the history.
-#[derive(Drop)]
+#[derive(Clone, Copy)]
 pub struct Carried {
     pub taps: [i16; 5],
     pub scale_q14: i16,
@@ -442,7 +442,7 @@ fn held_after(h: SilkPLCState, k: Carried, a: [i16; 16]) -> SilkPLCState
 }
 
 // What a lost frame leaves beside its samples.
-#[derive(Drop)]
+#[derive(Clone, Copy)]
 pub struct Concealed {
     pub plc: SilkPLCState,
     pub memory: [i32; 16],
@@ -582,7 +582,7 @@ fn lagged(c: SilkDecoderControl, lag: i32) -> SilkDecoderControl
     t
 }
 
-#[derive(Drop)]
+#[derive(Clone, Copy)]
 pub struct Lost {
     pub state: SilkDecoderState,
     pub control: SilkDecoderControl,

@@ -1,3 +1,5 @@
 // Packet-loss concealment (plc.rs).
+#![tactic(auto)]
+
 pub mod conceal;
 pub mod update;

@@ -104,7 +104,7 @@ pub fn noise_place(exc: &[i32], gains: [i32; 2], l: usize, n: usize, m: usize, h
 }
 
 // The largest sum of a subframe's taps, and the pitch (Q8) there.
-#[derive(Drop)]
+#[derive(Clone, Copy)]
 pub struct Strongest {
     pub gain: i32,
     pub pitch: i32,
@@ -171,7 +171,7 @@ fn scaled_tap(sum: i32) -> i16
 }
 
 // The middle tap and the pitch (Q8) to hold.
-#[derive(Drop)]
+#[derive(Clone, Copy)]
 pub struct Pulse {
     pub tap: i16,
     pub pitch: i32,

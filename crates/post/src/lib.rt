@@ -1,4 +1,6 @@
 // The functions that a Rust or C program links. A contract is one equation: the answer and the slices at exit are those of the call's definition.
+#![tactic(auto)]
+
 ghost use Rattle.std.specs.Prelude.{◌≡◌, [], pos, length};
 ghost use Rattle.shape.specs.Shape.{shape};
 ghost use Rattle.decoder.specs.Settings.{default_settings};

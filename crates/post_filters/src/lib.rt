@@ -1,4 +1,6 @@
 // The functions of filters that a Rust or C program links.
+#![tactic(auto)]
+
 ghost use Rattle.std.specs.Prelude.{◌≡◌, cond, ◌++◌, ◌≤◌, pos, length, drop};
 ghost use Rattle.post_filters.specs.Calls.{stability_call, sentence_call, filter_call, cosine_call, rising_call};
 ghost use Rattle.post_filters.specs.Claims.{RisingTold};

@@ -1,4 +1,6 @@
 // The functions of a load that a Rust or C program links. A contract is one equation: the answer and the slices at exit are those of the call's definition.
+#![tactic(auto)]
+
 ghost use Rattle.std.specs.Prelude.{◌≡◌, ◌≤◌, length};
 ghost use Rattle.generator.specs.Draws.{drawn};
 ghost use Rattle.generator.specs.Leaps.{undoing};

@@ -1,5 +1,7 @@
 // A frame's 817 bytes, from its kind on, in a recorded stream's record and in a yard recording's.
 // Inner: every function.
+#![tactic(auto)]
+
 ghost use Rattle.std.specs.Prelude.{◌≡◌, ◌++◌, ◌+◌, ◌≤◌, pos, length, replicate};
 ghost use Rattle.std.specs.Int.{w16, w32};
 ghost use Rattle.le.specs.Bytes.{bytes_of, words_at, packed, with_bytes};

@@ -1,5 +1,7 @@
 // Yard recordings: the writer, which refuses what the reader would. A refused call writes nothing.
 // Inner: every function but begin, append_lost and append_received.
+#![tactic(auto)]
+
 ghost use Rattle.std.specs.Prelude.{◌≡◌, true, suc, ◌+◌, ◌*◌, ◌≤◌, pos, length};
 ghost use Rattle.le.specs.Bytes.{bytes_of, with_bytes};
 ghost use Rattle.refusal.specs.First.{first_or};

@@ -1,5 +1,7 @@
 // Yard recordings: the reader. Frames stay in the bytes that are lent.
 // Inner: every function but read.
+#![tactic(auto)]
+
 ghost use Rattle.std.specs.Prelude.{◌≡◌, map, not, ◌&&◌, [], ◌∷◌, ◌+◌, ◌*◌, ◌≤◌, ◌<◌, pos, length, take, replicate};
 ghost use Rattle.refusal.specs.First.{◌gives◌, first_or};
 ghost use Rattle.refusal.specs.declared.Refusal.TheVariants.{Rate, Size, Record};
@@ -18,7 +20,7 @@ use refusal::{Refusal, earlier, first, number};
 const MARK: [u8; 4] = *b"YARD";
 
 // What is read of a recording: the first `frames` records are those of its frames, in order.
-#[derive(Drop)]
+#[derive(Clone, Copy)]
 pub struct Recording {
     pub refusal: Refusal,
     pub rate: i32,

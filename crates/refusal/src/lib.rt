@@ -1,10 +1,12 @@
 // Why a call is turned down: document 01's rows 1 to 13, and document 02's rows 14 to 23.
 // Inner: every function.
+#![tactic(auto)]
+
 ghost use Rattle.std.specs.Prelude.{◌≡◌, cond, pos};
 ghost use Rattle.refusal.specs.Refusals.{refusal_number, refusal_word, text_of};
 ghost use Rattle.refusal.specs.First.{earlier};
 
-#[derive(Drop)]
+#[derive(Clone, Copy)]
 pub enum Refusal {
     Nothing,
     Rate,
@@ -72,7 +74,7 @@ pub fn code(r: Refusal) -> i32
 }
 
 // A word of up to eight letters, with zeros after them.
-#[derive(Drop)]
+#[derive(Clone, Copy)]
 pub struct Text {
     pub letters: [u8; 8],
     pub len: usize,

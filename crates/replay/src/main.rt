@@ -1,4 +1,6 @@
 // Makes the calls that standard input lists, and writes each one's answer and the sum of all that a call can write.
+#![tactic(auto)]
+
 ghost use Rattle.std.specs.Prelude.{◌≡◌, ◌≤◌, ◌^◌, min, pos, length, replicate, get_or, take};
 ghost use Rattle.word.specs.Int.{mod_ℤ};
 ghost use Rattle.replay.specs.Put.{room, shorts, put};
@@ -55,7 +57,7 @@ const COEFFICIENTS: i32 = 27;
 const RESULT: i32 = 28;
 
 // What calls are lent parts of: all is kept from call to call.
-#[derive(Drop)]
+#[derive(Clone, Copy)]
 struct Lent {
     words: [i32; 704],
     halves: [i16; 544],
@@ -69,7 +71,7 @@ struct Lent {
 }
 
 // A call's answer, and what it left.
-#[derive(Drop)]
+#[derive(Clone, Copy)]
 struct Called {
     answer: i32,
     left: Lent,
@@ -537,7 +539,7 @@ fn write_line(calls: u64, c: Called) {
     io::write_all(STDOUT_FILENO, b"\n");
 }
 
-#[derive(Drop)]
+#[derive(Clone, Copy)]
 struct Run {
     calls: u64,
     line: Line,

@@ -1,4 +1,6 @@
 // A recording is read as it was written, and written as it was read. The claims have no code: each is a contract.
+#![tactic(auto)]
+
 ghost use Rattle.round_trip.specs.Claims.{InOrder, WrittenIsRead, WriterTakes, ReadIsWritten};
 
 // What a writer writes in order reads back as the same frames, and it takes every list of frames that a recording can hold.

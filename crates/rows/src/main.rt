@@ -1,4 +1,5 @@
 // Runs the judges over the cases of standard input: each end of each range of document 01 from inside and from outside.
+#![tactic(auto)]
 
 use decoder::{
     Frame, Params, Settings, Signal, SilkCNGState, SilkDecoderControl, SilkDecoderState,
@@ -156,7 +157,7 @@ const OTHER: i32 = 80;
 const SAME: i32 = 99;
 
 // What the judges are asked about.
-#[derive(Drop)]
+#[derive(Clone, Copy)]
 struct Case {
     state: SilkDecoderState,
     control: SilkDecoderControl,
@@ -597,7 +598,7 @@ fn right(row: [i32; 64], count: usize) -> bool {
     answer(row[1], row[2], row[3], x) == row[0]
 }
 
-#[derive(Drop)]
+#[derive(Clone, Copy)]
 struct Tally {
     lines: u64,
     passed: u64,

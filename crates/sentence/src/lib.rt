@@ -1,5 +1,7 @@
 // An answer of the stability test as a sentence.
 // Inner: every function but sentence_of and no_two.
+#![tactic(auto)]
+
 ghost use Rattle.std.specs.Prelude.{◌≡◌, [], ◌∷◌, ◌+◌, ◌≤◌, ◌<◌, length};
 ghost use Rattle.refusal.specs.Letters.{letters};
 ghost use Rattle.sentence.specs.Sentence.{decimal, signed, words, filled, sentence_of, with};
@@ -9,7 +11,7 @@ use stability::{Stability, answer_number, answer_value};
 use word::{abs32, bits32};
 
 // A sentence of up to 64 letters, with zeros behind them.
-#[derive(Drop)]
+#[derive(Clone, Copy)]
 pub struct Sentence {
     pub letters: [u8; 64],
     pub len: usize,

@@ -1,4 +1,6 @@
 // Tells of each line of standard input, an edition and coefficients, whether the filter is stable under it, or why not.
+#![tactic(auto)]
+
 ghost use Rattle.std.specs.Prelude.{◌≤◌};
 
 use coefficients::{Entry, blank, ended, fed};
@@ -47,7 +49,7 @@ fn tell(e: Entry) {
 }
 
 // The line that is being read, and whether a byte of it was.
-#[derive(Drop)]
+#[derive(Clone, Copy)]
 struct Reading {
     line: Entry,
     begun: bool,

@@ -1,9 +1,11 @@
 // Rates, counts of subframes, and the lengths that follow from them.
 // Inner: every function.
+#![tactic(auto)]
+
 ghost use Rattle.std.specs.Prelude.{◌≡◌, ◌*◌, pos};
 ghost use Rattle.shape.specs.Shape.{shape, frame_length, order_of, is_rate, is_count, rate_of, count_of};
 
-#[derive(Drop)]
+#[derive(Clone, Copy)]
 pub struct Rate;
 
 impl Rate {

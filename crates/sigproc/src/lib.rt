@@ -1,5 +1,7 @@
 // Signal processing that the stages share (sigproc_fix.rs, and the synthesis of decode_core.rs, plc.rs and cng.rs).
 // Inner: every function.
+#![tactic(auto)]
+
 ghost use Rattle.std.specs.Prelude.{◌≡◌, ◌+◌, ◌-◌, ◌*◌, ◌%◌, ◌^◌, ◌<◌, ◌≤◌, ◌⊎◌, ◌++◌, map, length, take, drop, ◌*ℤ◌, unsigned_abs};
 ghost use Rattle.word.specs.Int.{wrap32};
 ghost use Rattle.macros.specs.Fixed.{round_shift};
@@ -125,7 +127,7 @@ pub fn silk_lpc_analysis_filter(out: &mut [i16], input: &[i16], b: &[i16; 16], d
 }
 
 // The energy of samples: energy times 2 ^ shift.
-#[derive(Drop)]
+#[derive(Clone, Copy)]
 pub struct Energy {
     pub energy: i32,
     pub shift: i32,

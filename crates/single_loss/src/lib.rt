@@ -1,5 +1,7 @@
 // The one frame that mattered: the smallest frame number of a recording whose loss alone brings a played sample beyond a limit in size.
 // Inner: every function but single_loss.
+#![tactic(auto)]
+
 ghost use Rattle.std.specs.Prelude.{◌≡◌};
 ghost use Rattle.decoder.specs.SetUp.{set_up_with};
 ghost use Rattle.playback.specs.Playback.{plain};
@@ -12,7 +14,7 @@ use edition::NEWER;
 use recording::read;
 use refusal::{Refusal, number};
 
-#[derive(Drop)]
+#[derive(Clone, Copy)]
 pub enum Answer {
     Refused(Refusal),
     Found(Culprit),

@@ -1,5 +1,7 @@
 // The whole frame on a state and a frame that lie in lent slices, or in parts of them.
 // Inner: every function.
+#![tactic(auto)]
+
 ghost use Rattle.std.specs.Prelude.{◌≡◌, false, length};
 ghost use Rattle.decoder.specs.declared.Frame.TheVariants.{Received, Lost};
 ghost use Rattle.layout.specs.Frame.{short_call, frame_in};

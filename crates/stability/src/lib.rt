@@ -1,5 +1,7 @@
 // The stability test of a short-term filter (lpc_analysis.rs).
 // Inner: every function but silk_lpc_inverse_pred_gain, silk_lpc_inverse_pred_gain_under and same_answer.
+#![tactic(auto)]
+
 ghost use Rattle.std.specs.Prelude.{◌≡◌, ◌||◌, ◌++◌, map, ◌-◌, ◌≤◌, ◌<◌, ◌^◌, pos, ◌*ℤ◌, length, take, drop, replicate};
 ghost use Rattle.word.specs.Int.{eq_ℤ, wrap32};
 ghost use Rattle.edition.specs.Edition.{older};
@@ -14,7 +16,7 @@ use word::{abs32, add32, low32, neg32, shl32, sub32, wide, wide16};
 const A_LIMIT: i32 = 16773022;
 
 // A filter's inverse gain (Q30), or why there is none, with the place of the step's coefficient.
-#[derive(Drop)]
+#[derive(Clone, Copy)]
 pub enum Stability {
     Stable(i32),
     Sum,
@@ -24,7 +26,7 @@ pub enum Stability {
 }
 
 // The answer of the test as a call.
-#[derive(Drop)]
+#[derive(Clone, Copy)]
 pub struct Tested {
     pub refusal: Refusal,
     pub answer: Stability,

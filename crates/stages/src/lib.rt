@@ -1,5 +1,7 @@
 // Set-up and the stages on a state and a frame that lie in lent slices. Refused, a call changes nothing.
 // Inner: every function.
+#![tactic(auto)]
+
 ghost use Rattle.std.specs.Prelude.{◌≡◌, false, [], length};
 ghost use Rattle.layout.specs.Layout.{short_state};
 ghost use Rattle.layout.specs.Frame.{short_frame, short_call};

@@ -1,5 +1,7 @@
 // Recorded streams and WAV files as bytes.
 // Inner: every function.
+#![tactic(auto)]
+
 ghost use Rattle.std.specs.Prelude.{◌≡◌, ◌++◌, ◌+◌, ◌*◌, ◌^◌, ◌≤◌, ◌<◌, pos, length, take, drop, replicate};
 ghost use Rattle.std.specs.Int.{w16};
 ghost use Rattle.le.specs.Bytes.{bytes_of, packed};
@@ -61,7 +63,7 @@ pub fn wav_header(hertz: u32, samples: u32) -> [u8; 44]
 }
 
 // What a stream's header says: kHz, subframes of a frame, records, and the samples that they play.
-#[derive(Drop)]
+#[derive(Clone, Copy)]
 pub struct Head {
     pub rate: u8,
     pub subframes: u8,
@@ -71,7 +73,7 @@ pub struct Head {
 
 // A stream, or why a file is not played: it is cut within the header, has another format, has no rate or count of subframes
 // of the decoder, or is too long for a WAV file.
-#[derive(Drop)]
+#[derive(Clone, Copy)]
 pub enum Opened {
     Stream(Head),
     Cut,

@@ -1,5 +1,7 @@
 // A trial: sixteen listeners follow a load, each behind a link of its own draws.
 // Inner: trial_refusal.
+#![tactic(auto)]
+
 ghost use Rattle.std.specs.Prelude.{◌≡◌};
 ghost use Rattle.trial.specs.Trial.{trial_refusal, trial_of};
 ghost use Rattle.trial.specs.Claims.{AddsUp, AllPlayed};
@@ -9,7 +11,7 @@ use listener::{Link, no_counts, sixteen};
 use refusal::Refusal;
 
 // How many frames each listener received, and how many of those that it lost were concealed and squelched.
-#[derive(Drop)]
+#[derive(Clone, Copy)]
 pub struct Trial {
     pub refusal: Refusal,
     pub received: [u32; 16],

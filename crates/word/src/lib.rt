@@ -1,6 +1,8 @@
 // Signed words: exact sums and products in a wider word, the low bits of a wider number, shifts and order.
 // Inner: every function.
 // A shift takes the low bits of its amount, as a release build of Rust does.
+#![tactic(auto)]
+
 ghost use Rattle.std.specs.Prelude.{◌≡◌, ◌^◌, ◌<◌, pos, negsuc, nat_abs, neg_ℤ, ◌+ℤ◌, ◌-ℤ◌, ◌*ℤ◌};
 ghost use Rattle.word.specs.Int.{wrap16, wrap32, wrap64, floor_div, mod_ℤ, min_ℤ, max_ℤ, clamp, sat16, sat32};
 

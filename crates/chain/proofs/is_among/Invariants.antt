@@ -1,0 +1,16 @@
+use Prim.Native.Nat.{◌≤◌, ◌-◌}
+use mathlib.Core.Path.{◌≡◌, refl}
+use native.Mathlib.Numerals.{add-one}
+use native.Mathlib.Nat.{le_antisymm}
+use lib.ListN.{take}
+use lib.Seq.{take-suc}
+use Rattle.chain.specs.Chain.{is_among}
+use Rattle.chain.proofs.Chains.{among_snoc}
+use borrow.Author.Rules.{rules}
+use Rattle.chain.proofs.is_among.Given as goal
+
+abbrev pub invariant-loop-j : goal.invariant-loop-j
+invariant-loop-j l = (l.j ≤ l.n) × (l.met ≡ is_among l.k (take l.j l.records))
+
+abbrev pub decreases-loop-j : goal.decreases-loop-j
+decreases-loop-j l = l.n - l.j

@@ -1,0 +1,7 @@
+use Rattle.chain.specs.Chain.{next_of}
+use borrow.Author.Rules.{rules}
+use Rattle.chain.proofs.next_of.Goals as goal
+
+pub returns : goal.returns
+unfolding next_of
+returns c = rw c.u16_at.ensures.0

@@ -1,0 +1,29 @@
+use Prim.Native.Nat.{ℕ, ◌-◌, ◌<◌, ◌≤◌}
+use mathlib.Core.Path.{◌≡◌, refl}
+use mathlib.Core.List.{List, ◌++◌}
+use native.Mathlib.Nat.{le_antisymm, le_refl}
+use borrow.Author.Rules.{rules}
+use lib.IntN.{ℤ, pos, ◌+ℤ◌}
+use lib.ListN.{length, get_or, drop}
+use mir.Syntax.{w16, w32}
+use mir.Val.{to_z}
+use mir.Facts.{to_z-of_z}
+use Rattle.word.specs.Int.{sat16}
+use Rattle.word.specs.Tabulate.{tabulate}
+use Rattle.word.proofs.Lists.{length-tabulate}
+use Rattle.word.proofs.Words.{kept, got}
+use Rattle.sigproc.specs.Synthesis.{played_q10, played}
+use Rattle.sigproc.proofs.Fill.{turn, filled}
+use Rattle.nlsf.proofs.Parts.{rest_at}
+use Rattle.cng.proofs.added.Given as goal
+
+abbrev pub sample : List ℤ → List ℤ → ℤ → ℕ → ℤ
+sample frame signal gain i = sat16 (get_or frame i (pos 0) +ℤ played_q10 gain (get_or signal i (pos 0)))
+
+abbrev pub invariant-loop-i : goal.invariant-loop-i
+invariant-loop-i l =
+    (l.i ≤ l.i-end) × (l.i-end ≡ length l.initial.frame) × (length l.frame ≡ length l.initial.frame)
+    × (l.frame ≡ tabulate l.i (sample l.initial.frame l.signal (to_z w32 l.gain_q10)) ++ drop l.i l.initial.frame)
+
+abbrev pub decreases-loop-i : goal.decreases-loop-i
+decreases-loop-i l = l.i-end - l.i

@@ -1,0 +1,49 @@
+use Prim.Native.Nat.{ℕ, suc, ◌+◌, ◌-◌, ◌^◌, ◌≤◌}
+use mathlib.Core.Path.{◌≡◌, refl}
+use mathlib.Core.List.{List, ◌++◌}
+use native.Mathlib.Nat.{le_antisymm, le_refl}
+use native.Mathlib.Numerals.{add-one}
+use native.Mathlib.Omega.{arith}
+use borrow.Author.Rules.{rules}
+use lib.IntN.{ℤ, pos}
+use lib.ListN.{length, get_or, drop}
+use mir.Syntax.{w32}
+use mir.Val.{to_z, of_z}
+use mir.Facts.{to_z-of_z}
+use Rattle.word.specs.Int.{floor_div, mod_ℤ}
+use Rattle.word.specs.Tabulate.{tabulate}
+use Rattle.word.proofs.Words.{kept, got}
+use Rattle.sigproc.proofs.Fill.{turn, filled}
+use Rattle.cng.specs.Noise.{seed_at, drawn}
+use Rattle.cng.proofs.drawn.Invariants.{value}
+use Rattle.cng.proofs.drawn.Goals.{After-silk_rand-s}
+use Rattle.cng.proofs.drawn.Goals as goal
+
+-- the generator after one more turn
+next : (c : After-silk_rand-s) → to_z w32 (of_z w32 c.silk_rand-s.result) ≡ seed_at (to_z w32 (of_z w32 c.args.seed)) (suc c.loop-i.i)
+unfolding seed_at
+next c = rw (got w32 c.silk_rand-s.type_inv c.silk_rand-s.ensures, c.loop-i.invariant.3)
+
+pub loop-i-init : goal.loop-i-init
+unfolding tabulate seed_at
+loop-i-init c = (search rules, search rules, search rules, refl, refl)
+
+pub loop-i-preserved : goal.loop-i-preserved
+loop-i-preserved c =
+    let a = c.args in (
+      search rules,
+      search rules,
+      search rules,
+      rw add-one (next c.before.before),
+      turn a.out.now (value a.exc.now a.mask (to_z w32 (of_z w32 a.seed))) c.loop-i.i c.loop-i.out _ (omega arith) c.loop-i.invariant.4
+          (rw (kept w32 (get_or a.exc.now c.draw-place.result (pos 0)) c.out-1.given, c.draw-place.ensures.0, next c.before.before)),
+    )
+
+pub returns : goal.returns
+unfolding drawn
+returns c =
+    let l = c.loop-i in
+    let out = c.args.out.now in
+    let e = le_antisymm l.invariant.0 c.loop-i-test.false in
+    let f = to_z-of_z c.ranges.seed in
+    (rw (l.invariant.3, e, f), rw (l.invariant.4, e, f) (filled (tabulate (length out) _) out (length out) (le_refl _)))

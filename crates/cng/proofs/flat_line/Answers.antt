@@ -1,0 +1,21 @@
+use Prim.Native.Nat.{◌+◌, ◌*◌, ◌/◌}
+use native.Mathlib.Numerals.{add-one}
+use native.Mathlib.Omega.{arith}
+use borrow.Author.Rules.{rules}
+use lib.IntN.{pos}
+use mir.Syntax.{w16}
+use Rattle.word.proofs.Words.{kept}
+use Rattle.cng.specs.Noise.{flat_line}
+use Rattle.cng.proofs.Numbers.{flat_le}
+use Rattle.cng.proofs.flat_line.Goals as goal
+
+pub overflow_mul-result : goal.overflow_mul-result
+overflow_mul-result c = omega (arith, flat_le c.args.d c.args.i c.requires.1)
+
+pub overflow_cast-result : goal.overflow_cast-result
+overflow_cast-result c = omega (arith, flat_le c.args.d c.args.i c.requires.1)
+
+pub returns : goal.returns
+unfolding flat_line
+returns c =
+    rw (kept w16 (pos ((c.args.i + 1) * (32767 / (c.args.d + 1)))) (omega (arith, flat_le c.args.d c.args.i c.requires.1)), add-one)

@@ -1,0 +1,28 @@
+use Prim.Native.Nat.{◌-◌, ◌≤◌}
+use mathlib.Core.Path.{◌≡◌, refl}
+use native.Mathlib.Nat.{le_antisymm}
+use native.Mathlib.Numerals.{add-one}
+use borrow.Author.Rules.{rules}
+use lib.IntN.{pos}
+use lib.ListN.{get_or}
+use mir.Syntax.{w32}
+use mir.Val.{to_z}
+use mir.Facts.{to_z-of_z}
+use Rattle.word.proofs.Words.{kept, got}
+use Rattle.cng.specs.Noise.{smoothed_gain}
+use Rattle.cng.proofs.smoothed_gain.Goals as goal
+
+pub loop-k-init : goal.loop-k-init
+unfolding smoothed_gain
+loop-k-init c = (search rules, refl)
+
+pub loop-k-preserved : goal.loop-k-preserved
+unfolding smoothed_gain
+loop-k-preserved c = (
+  search rules,
+  rw (got w32 c.next_gain-gain.type_inv c.next_gain-gain.ensures, kept w32 (get_or c.args.gains.now c.loop-k.k (pos 0)) c.next_gain-arg-1.given, c.loop-k.invariant.1, add-one),
+)
+
+pub returns : goal.returns
+returns c =
+    rw (c.loop-k.invariant.1, le_antisymm c.loop-k.invariant.0 c.loop-k-test.false, to_z-of_z c.ranges.held)

@@ -1,0 +1,23 @@
+use Prim.Native.Nat.{ℕ, ◌-◌, ◌≤◌}
+use mathlib.Core.Path.{◌≡◌, refl}
+use mathlib.Core.List.{List, ◌++◌}
+use native.Mathlib.Nat.{le_antisymm}
+use native.Mathlib.Numerals.{add-one}
+use borrow.Author.Rules.{rules}
+use lib.IntN.{ℤ, pos}
+use lib.ListN.{length, get_or, drop}
+use mir.Syntax.{w16}
+use Rattle.word.specs.Tabulate.{tabulate}
+use Rattle.word.proofs.Lists.{tabulate-more}
+use Rattle.word.proofs.Words.{kept, got}
+use Rattle.cng.specs.Noise.{smoothed_line, smoothed_lines}
+use Rattle.cng.proofs.smoothed_lines.Given as goal
+
+abbrev pub line : List ℤ → List ℤ → ℕ → ℤ
+line held lines i = smoothed_line (get_or held i (pos 0)) (get_or lines i (pos 0))
+
+abbrev pub invariant-loop-i : goal.invariant-loop-i
+invariant-loop-i l = (l.i ≤ l.d) × (length l.new ≡ 16) × (l.new ≡ tabulate l.i (line l.held l.lines) ++ drop l.i l.held)
+
+abbrev pub decreases-loop-i : goal.decreases-loop-i
+decreases-loop-i l = l.d - l.i

@@ -1,0 +1,7 @@
+use mathlib.Core.Path.{sym}
+use Rattle.culprit.proofs.Laws.{kind_at}
+use borrow.Author.Rules.{rules}
+use Rattle.culprit.proofs.was_received.Goals as goal
+
+pub returns : goal.returns
+returns c = sym (kind_at c.args.bytes.now c.args.i)

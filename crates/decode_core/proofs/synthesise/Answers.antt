@@ -1,0 +1,65 @@
+use Prim.Native.Nat.{◌+◌}
+use mathlib.Core.Path.{◌≡◌, sym, ◌∙◌}
+use mathlib.Core.List.{◌++◌}
+use native.Mathlib.Omega.{arith}
+use borrow.Author.Rules.{rules}
+use lib.ListN.{take, drop}
+use lib.Seq.{take-append-le, length-take-le}
+use Rattle.sigproc.proofs.Places.{put_whole}
+use Rattle.decode_core.proofs.Frames.{zeros-words, length-signal, memory_front, memory_in, finished}
+use Rattle.decode_core.proofs.synthesise.Goals as goal
+
+pub slice_bounds-subframes-end : goal.slice_bounds-subframes-end
+slice_bounds-subframes-end c =
+    let s = c.copy32_at.new.0 in
+    let l = c.args.f.subfr_length in
+    let h = c.requires.0.sized.subframe in
+    sym (length-signal s c.quiet-signal.result c.args.memory.now l c.quiet-signal.ensures c.copy32_at.auto.0 h)
+
+pub subframes-t-requires : goal.subframes-t-requires
+subframes-t-requires c =
+    let s = c.copy32_at.new.0 in
+    let l = c.args.f.subfr_length in
+    let h = c.requires.0.sized.subframe in
+    (c.requires.0, c.requires.1, c.requires.2, length-signal s c.quiet-signal.result c.args.memory.now l c.quiet-signal.ensures c.copy32_at.auto.0 h, zeros-words _ c.zeros-past.ensures, c.requires.4, c.requires.5)
+
+pub slice_bounds-signal-end-2 : goal.slice_bounds-signal-end-2
+slice_bounds-signal-end-2 c =
+    let s = c.copy32_at.new.0 in
+    let l = c.args.f.subfr_length in
+    let h = c.requires.0.sized.subframe in
+    memory_front s c.quiet-signal.result c.args.memory.now l c.quiet-signal.ensures c.copy32_at.auto.0 h c.subframes-t.new.1.1.1.1.1.0 c.subframes-t.auto.1.1.1.1.1.0
+
+pub slice_bounds-copy32_at-end-2 : goal.slice_bounds-copy32_at-end-2
+slice_bounds-copy32_at-end-2 c =
+    let s = c.copy32_at.new.0 in
+    let l = c.args.f.subfr_length in
+    let h = c.requires.0.sized.subframe in
+    sym (length-take-le 16 (c.subframes-t.new.1.1.1.1.1.0 ++ drop (16 + l) s) (memory_front s c.quiet-signal.result c.args.memory.now l c.quiet-signal.ensures c.copy32_at.auto.0 h c.subframes-t.new.1.1.1.1.1.0 c.subframes-t.auto.1.1.1.1.1.0))
+
+pub copy32_at-requires-2 : goal.copy32_at-requires-2
+copy32_at-requires-2 c =
+    let s = c.copy32_at.new.0 in
+    let l = c.args.f.subfr_length in
+    let h = c.requires.0.sized.subframe in
+    let u = c.subframes-t in
+    omega (arith, length-take-le 16 (u.new.1.1.1.1.1.0 ++ drop (16 + l) s) (memory_front s c.quiet-signal.result c.args.memory.now l c.quiet-signal.ensures c.copy32_at.auto.0 h u.new.1.1.1.1.1.0 u.auto.1.1.1.1.1.0), c.requires.3)
+
+pub returns : goal.returns
+returns c =
+    let s = c.copy32_at.new.0 in
+    let l = c.args.f.subfr_length in
+    let h = c.requires.0.sized.subframe in
+    let u = c.subframes-t in
+    let p = u.new.1.1.1.1.1.0 in
+    let k = memory_front s c.quiet-signal.result c.args.memory.now l c.quiet-signal.ensures c.copy32_at.auto.0 h p u.auto.1.1.1.1.1.0 in
+    let i = length-signal s c.quiet-signal.result c.args.memory.now l c.quiet-signal.ensures c.copy32_at.auto.0 h in
+    let t : take 16 (p ++ drop (16 + l) s) ≡ take 16 p = take-append-le 16 p (drop (16 + l) s) (omega (arith, u.auto.1.1.1.1.1.0)) in
+    finished c.args.f c.args.rows c.args.exc.now c.args.n c.args.b u.result c.zeros-past.result (take (16 + l) s) p u.new.1.1.1.1.1.1.0 c.args.«out-buf».now u.new.1.1.1.1.1.1.1.0 c.args.xq.now u.new.1.1.1.1.1.1.1.1.0 c.args.memory.now _
+    c.zeros-past.ensures
+    c.requires.1
+    (omega (arith, c.requires.0.sized.history))
+    (memory_in s c.quiet-signal.result c.args.memory.now l c.quiet-signal.ensures c.copy32_at.auto.0 h c.copy32_at.ensures c.requires.3)
+    u.ensures.0
+    u.ensures.1
+    (c.copy32_at-2.ensures ∙ put_whole c.args.memory.now (take 16 (p ++ drop (16 + l) s)) (c.requires.3 ∙ sym (length-take-le 16 (p ++ drop (16 + l) s) k)) ∙ t)

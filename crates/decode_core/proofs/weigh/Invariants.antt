@@ -1,0 +1,24 @@
+use Prim.Native.Nat.{ℕ, ◌≤◌, ◌-◌}
+use mathlib.Core.Path.{◌≡◌, refl}
+use mathlib.Core.List.{◌++◌}
+use native.Mathlib.Nat.{le_antisymm}
+use native.Mathlib.Omega.{arith}
+use borrow.Author.Rules.{rules}
+use lib.IntN.{pos}
+use lib.ListN.{length, get_or, drop}
+use mir.Syntax.{w16, w32}
+use mir.Val.{to_z}
+use mir.Facts.{to_z-of_z}
+use Rattle.word.specs.Tabulate.{tabulate}
+use Rattle.word.proofs.Words.{kept}
+use Rattle.macros.specs.Fixed.{smulwb}
+use Rattle.sigproc.proofs.Fill.{turn, filled, map-table}
+use Rattle.decode_core.proofs.weigh.Given as goal
+
+abbrev pub invariant-loop-i : goal.invariant-loop-i
+invariant-loop-i l =
+    (l.i ≤ l.i-end) × (l.i-end ≡ length l.residual) × (length l.past ≡ length l.initial.past)
+    × (l.past ≡ tabulate l.i (λ (k : ℕ). smulwb (to_z w32 l.inverse) (get_or l.residual k (pos 0))) ++ drop l.i l.initial.past)
+
+abbrev pub decreases-loop-i : goal.decreases-loop-i
+decreases-loop-i l = l.i-end - l.i

@@ -1,0 +1,96 @@
+use Prim.Native.Nat.{◌+◌}
+use mathlib.Core.Path.{◌≡◌, refl, sym, ap, ◌∙◌}
+use native.Mathlib.Omega.{arith}
+use borrow.Author.Rules.{rules}
+use mathlib.Core.Bool.{false, cond}
+use lib.IntN.{pos, nat_abs, ◌+ℤ◌}
+use lib.ListN.{length, replicate}
+use Rattle.word.specs.Int.{eq_ℤ}
+use Rattle.word.proofs.Order.{eq_ℤ_ne}
+use Rattle.shape.specs.Shape.{shape, is_rate, is_count, rate_of, frame_length}
+use Rattle.decoder.specs.Ranges.{cng_fits}
+use Rattle.decoder.specs.Settings.{squelched}
+use Rattle.decoder.specs.State.{shape_of}
+use Rattle.decoder.specs.Outcome.{Outcome}
+use Rattle.decoder.proofs.Between.{natural-back}
+use Rattle.decoder.proofs.Bounds.{bounds, plc_fits_lem, cng_fits_lem}
+use Rattle.plc.specs.Conceal.{plc_conceal}
+use Rattle.decode_frame.specs.WholeFrame.{remembered, finished, lost, muted}
+use Rattle.decode_frame.proofs.Noised.{all_samples}
+use Rattle.decode_frame.proofs.lost.Goals.{After-finished-u, After-plc_conceal-o}
+use Rattle.decode_frame.proofs.lost.Goals as goal
+
+-- the rate and the count of what concealment leaves
+khz : (c : After-plc_conceal-o) → c.plc_conceal-o.result.state.fs_khz ≡ c.args.s.fs_khz
+unfolding plc_conceal
+khz c = ap (λ r. r.state.fs_khz) c.plc_conceal-o.ensures.0
+
+nb : (c : After-plc_conceal-o) → c.plc_conceal-o.result.state.nb_subfr ≡ c.args.s.nb_subfr
+unfolding plc_conceal
+nb c = ap (λ r. r.state.nb_subfr) c.plc_conceal-o.ensures.0
+
+-- what concealment leaves of noise, and one loss more
+cng : (c : After-plc_conceal-o) → c.plc_conceal-o.result.state.s_cng ≡ c.args.s.s_cng
+unfolding plc_conceal
+cng c = ap (λ r. r.state.s_cng) c.plc_conceal-o.ensures.0
+
+loss : (c : After-plc_conceal-o) → eq_ℤ c.plc_conceal-o.result.state.loss_cnt (pos 0) ≡ false
+unfolding plc_conceal
+loss c =
+    let s = c.args.s in
+    let b = bounds (rate_of s.fs_khz) s c.requires.0 in
+    ap (λ r. eq_ℤ r.state.loss_cnt (pos 0)) c.plc_conceal-o.ensures.0 ∙ ap (λ n. eq_ℤ (n +ℤ pos 1) (pos 0)) b.decoder.loss_cnt
+    ∙ eq_ℤ_ne (pos (nat_abs s.loss_cnt + 1)) (pos 0) (λ e. let z : nat_abs s.loss_cnt + 1 ≡ 0 = ap nat_abs e in omega arith)
+
+-- the frame before a squelch
+whole : (c : After-finished-u) → let s = c.args.s in ◌≡◌ {A = Outcome} (record { state = c.finished-u.result; control = c.plc_conceal-o.result.control; samples = c.finished-u.new.1.1.0 }) (lost (shape_of s) s c.args.c)
+unfolding lost remembered plc_conceal
+whole c =
+    let f = c.finished-u in
+    let r = c.remembered-t in
+    let x = c.plc_conceal-o.ensures.1 ∙ all_samples _ _ _ c.requires.2 in
+    let st = ap (λ t. t.state) c.plc_conceal-o.ensures.0 in
+    let ct = ap (λ t. t.control) c.plc_conceal-o.ensures.0 in
+    let t = r.ensures ∙ λ i. remembered (shape_of (st i)) (st i) (x i) in
+    f.ensures ∙ λ i. finished (shape_of (t i)) (record { state = t i; control = ct i; samples = x i })
+
+pub plc_conceal-o-requires : goal.plc_conceal-o-requires
+plc_conceal-o-requires c =
+    let s = c.args.s in
+    let b = bounds (rate_of s.fs_khz) s c.requires.0 in
+    (b.sizes.rate, b.sizes.count, plc_fits_lem (rate_of s.fs_khz) s.s_plc b.plc, natural-back s.loss_cnt b.decoder.loss_cnt, c.requires.1, omega (arith, c.requires.2))
+
+pub remembered-t-requires : goal.remembered-t-requires
+remembered-t-requires c =
+    let s = c.args.s in
+    let b = bounds (rate_of s.fs_khz) s c.requires.0 in
+    let l : frame_length (shape_of c.plc_conceal-o.result.state) ≡ frame_length (shape_of s) = λ i. frame_length (shape (khz c.before.before.before.before i) (nb c.before.before.before.before i)) in
+    (ap is_rate (khz c.before.before.before.before) ∙ b.sizes.rate, ap is_count (nb c.before.before.before.before) ∙ b.sizes.count, omega (arith, c.plc_conceal-o.auto, c.requires.2, l))
+
+pub finished-u-requires : goal.finished-u-requires
+unfolding remembered
+finished-u-requires c =
+    let r = c.remembered-t.ensures in
+    let s = c.args.s in
+    let b = bounds (rate_of s.fs_khz) s c.requires.0 in
+    let khz' = ap (λ t. t.fs_khz) r ∙ khz c.before.before.before.before.before.before in
+    let nb' = ap (λ t. t.nb_subfr) r ∙ nb c.before.before.before.before.before.before in
+    let l : frame_length (shape_of c.remembered-t.result) ≡ frame_length (shape_of s) = λ i. frame_length (shape (khz' i) (nb' i)) in (
+      ap is_rate khz' ∙ b.sizes.rate,
+      ap is_count nb' ∙ b.sizes.count,
+      (λ i. cng_fits (rate_of (khz' i)) ((ap (λ t. t.s_cng) r ∙ cng c.before.before.before.before.before.before) i)) ∙ cng_fits_lem (rate_of s.fs_khz) s.s_cng b.cng,
+      omega (arith, c.plc_conceal-o.auto, c.requires.2, l),
+      ap (λ t. eq_ℤ t.loss_cnt (pos 0)) r ∙ loss c.before.before.before.before.before.before,
+    )
+
+pub returns : goal.returns
+unfolding muted
+returns c =
+    let m = c.mute in
+    let q = c.squelched in
+    let y = c.finished-u.new.1.1.0 in
+    let n : length y ≡ frame_length (shape_of c.args.s) = omega (arith, c.finished-u.auto, c.plc_conceal-o.auto, c.requires.2) in
+    let z : m.new.1.0 ≡ cond (squelched c.args.s) (replicate (frame_length (shape_of c.args.s)) (pos 0)) y =
+    m.ensures ∙ λ i. cond (q.ensures i) (replicate (n i) (pos 0)) y in
+    (λ i. record { state = c.finished-u.result; control = c.plc_conceal-o.result.control; samples = z i })
+    ∙ ap (muted (shape_of c.args.s) (squelched c.args.s)) (whole c.before.before.before.before.before)

@@ -1,0 +1,28 @@
+use lib.IntN.{pos}
+use mir.Syntax.{w8}
+use mir.Val.{SFits}
+use Rattle.word.proofs.Order.{lt_read_l}
+use Rattle.decoder.specs.Signals.{is_type}
+use Rattle.decoder.proofs.Ends.{below, at_most}
+use Rattle.decoder.proofs.is_type.Goals as goal
+
+pub returns-in-0 : goal.returns-in-0
+unfolding is_type
+returns-in-0 c =
+    let n = c.signal_number in
+    let f : SFits w8 n.result = record { sfits = n.type_inv } in
+    rw (← n.ensures) (at_most 2 n.result (lt_read_l (pos 0) f c.if-signal_number-lt0.false) (lt_read_l (pos 3) f c.if-this-lt3.true))
+
+pub returns-in_default : goal.returns-in_default
+unfolding is_type
+returns-in_default c =
+    let n = c.signal_number in
+    let f : SFits w8 n.result = record { sfits = n.type_inv } in
+    rw (← n.ensures) (below 2 n.result (lt_read_l (pos 0) f c.if-signal_number-lt0.true))
+
+pub returns-in_default-2 : goal.returns-in_default-2
+unfolding is_type
+returns-in_default-2 c =
+    let n = c.signal_number in
+    let f : SFits w8 n.result = record { sfits = n.type_inv } in
+    rw (← n.ensures) (at_most 2 n.result (lt_read_l (pos 0) f c.if-signal_number-lt0.false) (lt_read_l (pos 3) f c.if-this-lt3.false))

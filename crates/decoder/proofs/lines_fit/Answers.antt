@@ -1,0 +1,17 @@
+use borrow.Author.Rules.{rules}
+use mir.Facts.{to_z-of_z}
+use mathlib.Core.Path.{◌≡◌}
+use lib.ListN.{length}
+use Rattle.shape.proofs.Shapes.{order_le}
+use Rattle.decoder.proofs.lines_fit.Goals as goal
+
+pub all_within16-requires : goal.all_within16-requires
+all_within16-requires c = let l : length c.args.lines.now ≡ 16 = search rules in rw (c.lpc_order.ensures, l) (order_le _)
+
+pub returns : goal.returns
+returns c =
+    rw (
+      c.all_within16.ensures,
+      c.lpc_order.ensures,
+      to_z-of_z c.ranges.khz,
+    )

@@ -1,0 +1,45 @@
+use Prim.Native.Nat.{◌≤◌, ◌-◌}
+use mathlib.Core.Path.{◌≡◌, refl}
+use mathlib.Core.List.{◌++◌}
+use native.Mathlib.Numerals.{add-one}
+use native.Mathlib.Nat.{le_antisymm}
+use native.Mathlib.Omega.{arith}
+use borrow.Author.Rules.{rules}
+use lib.IntN.{pos}
+use lib.ListN.{length, get_or, drop}
+use mir.Syntax.{w16, w32}
+use mir.Val.{to_z, of_z}
+use mir.Facts.{to_z-of_z}
+use Rattle.word.proofs.Words.{kept}
+use Rattle.excitation.specs.Excitation.{generator_at, excitation}
+use Rattle.sigproc.proofs.Fill.{filled}
+use Rattle.excitation.proofs.Samples.{excite_turn}
+use Rattle.excitation.proofs.excite.Goals as goal
+
+pub loop-i-init : goal.loop-i-init
+unfolding generator_at excitation
+loop-i-init c = (search rules, refl, refl, refl, refl)
+
+pub excited-requires : goal.excited-requires
+excited-requires c =
+    rw (to_z-of_z c.ranges.offset) c.requires.1
+
+pub loop-i-preserved : goal.loop-i-preserved
+unfolding generator_at
+loop-i-preserved c =
+    let a = c.args in
+    let u = kept w16 (get_or a.pulses.now c.loop-i.i (pos 0)) c.p-1.given in
+    let v = kept w32 c.silk_rand-r.result c.silk_rand-r.type_inv in (
+      search rules,
+      search rules,
+      search rules,
+      rw (add-one, kept w32 _ c.add32-g.type_inv, c.add32-g.ensures, v, c.silk_rand-r.ensures, kept w32 _ c.wide16.type_inv, c.wide16.ensures, u, c.loop-i.invariant.3),
+      rw (add-one, kept w32 _ c.excited.type_inv, c.excited.ensures, v, c.silk_rand-r.ensures, u, c.loop-i.invariant.3, c.loop-i.invariant.4)
+          (excite_turn (to_z w32 (of_z w32 a.offset)) a.pulses.now (to_z w32 (of_z w32 a.seed)) a.exc.now c.loop-i.i (omega arith)),
+    )
+
+pub returns : goal.returns
+returns c =
+    let e = le_antisymm c.loop-i.invariant.0 c.loop-i-test.false in
+    let d = c.args.exc.now in
+    rw (c.loop-i.invariant.4, e, to_z-of_z c.ranges.offset, to_z-of_z c.ranges.seed) (filled _ d (length d) (omega arith))

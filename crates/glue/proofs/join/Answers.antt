@@ -1,0 +1,82 @@
+use Prim.Native.Nat.{◌≤◌, ◌^◌}
+use mathlib.Core.Path.{◌≡◌, refl, ◌∙◌}
+use native.Mathlib.Omega.{arith}
+use borrow.Author.Rules.{rules}
+use lib.IntN.{pos, nat_abs, ◌-ℤ◌, ◌*ℤ◌}
+use lib.ListN.{length}
+use lib.Signed.{quot_z}
+use mir.Syntax.{w32}
+use mir.Val.{to_z, of_z}
+use mir.Facts.{to_z-of_z, to_z_pos}
+use Rattle.word.specs.Int.{wrap32}
+use Rattle.word.proofs.Words.{kept}
+use Rattle.sigproc.specs.Energy.{energy_at, energy_shift, sum_sqr_shift}
+use Rattle.glue.specs.Glue.{start_gain, lowered, joined}
+use Rattle.glue.proofs.Shifts.{shift_most}
+use Rattle.glue.proofs.join.Goals.{After-lowered-concealed, After-lowered-received, After-struct_told-1, After-struct_told-2-1}
+use Rattle.glue.proofs.join.Goals as goal
+
+-- the frame's energy and shift
+energy_is : (c : After-struct_told-1) → let x = c.args.frame.now in to_z w32 (of_z w32 c.silk_sum_sqr_shift-e.result.energy) ≡ pos (energy_at x (energy_shift x))
+unfolding sum_sqr_shift
+energy_is c =
+    let e = c.silk_sum_sqr_shift-e in
+    kept w32 e.result.energy c.struct_told-1.given.0.1 ∙ rw e.ensures
+
+shift_is : (c : After-struct_told-2-1) → let x = c.args.frame.now in to_z w32 (of_z w32 c.silk_sum_sqr_shift-e.result.shift) ≡ pos (energy_shift x)
+unfolding sum_sqr_shift
+shift_is c =
+    let e = c.silk_sum_sqr_shift-e in
+    kept w32 e.result.shift c.struct_told-2-1.given.1.0.1 ∙ rw e.ensures
+
+small : (c : After-struct_told-2-1) → energy_shift c.args.frame.now ≤ 31
+small c = shift_most c.args.frame.now c.requires.1
+
+received : (c : After-lowered-received) → let a = c.args in let x = a.frame.now in to_z w32 (of_z w32 c.lowered-received.result) ≡ pos (lowered (pos (energy_at x (energy_shift x))) (nat_abs a.held) (energy_shift x))
+received c =
+    kept w32 c.lowered-received.result c.lowered-received.type_inv
+    ∙ c.lowered-received.ensures
+    ∙ rw (energy_is c.before.before, to_z-of_z c.ranges.held, shift_is c.before)
+
+concealed : (c : After-lowered-concealed) → let a = c.args in to_z w32 (of_z w32 c.lowered-concealed.result) ≡ pos (lowered a.energy (energy_shift a.frame.now) (nat_abs a.held))
+concealed c =
+    kept w32 c.lowered-concealed.result c.lowered-concealed.type_inv
+    ∙ c.lowered-concealed.ensures
+    ∙ rw (to_z-of_z c.ranges.energy, to_z-of_z c.ranges.held, shift_is c.before.before.before)
+
+pub lowered-received-requires : goal.lowered-received-requires
+lowered-received-requires c =
+    rw (energy_is c.before, to_z-of_z c.ranges.held, shift_is c) (refl, c.requires.3, c.requires.4, refl, small c)
+
+pub lowered-concealed-requires : goal.lowered-concealed-requires
+lowered-concealed-requires c =
+    rw (to_z-of_z c.ranges.energy, to_z-of_z c.ranges.held, shift_is c.before.before) (c.requires.2, refl, small c.before.before, c.requires.3, c.requires.4)
+
+pub start_gain-gain-requires : goal.start_gain-gain-requires
+start_gain-gain-requires c = rw (concealed c.before, received c.before.before.before) (refl, refl)
+
+pub slope_of-slope-requires : goal.slope_of-slope-requires
+slope_of-slope-requires c =
+    rw (to_z_pos w32 {n = length c.args.frame.now} (omega arith)) (refl, c.requires.0)
+
+pub returns-then-concealed-received : goal.returns-then-concealed-received
+unfolding joined
+returns-then-concealed-received c =
+    let k = concealed c.before.before.before.before.before.before in
+    let q = received c.before.before.before.before.before.before.before.before in
+    let gain = kept w32 c.start_gain-gain.result c.start_gain-gain.type_inv ∙ c.start_gain-gain.ensures in
+    rw (
+      c.ramp.ensures,
+      kept w32 c.slope_of-slope.result c.slope_of-slope.type_inv,
+      c.slope_of-slope.ensures,
+      gain,
+      k,
+      q,
+      to_z_pos w32 {n = length c.args.frame.now} (omega arith),
+      rw (k, q) at c.if-concealed-received.true,
+    )
+
+pub returns-else-concealed-received : goal.returns-else-concealed-received
+unfolding joined
+returns-else-concealed-received c =
+    rw (rw (concealed c.before, received c.before.before.before) at c.if-concealed-received.false) refl

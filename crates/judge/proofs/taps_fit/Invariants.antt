@@ -1,0 +1,15 @@
+use Prim.Native.Nat.{◌-◌, ◌≤◌}
+use mathlib.Core.Path.{◌≡◌, refl}
+use native.Mathlib.Nat.{le_antisymm}
+use native.Mathlib.Numerals.{add-one}
+use borrow.Author.Rules.{rules}
+use mir.Syntax.{w32}
+use Rattle.word.proofs.Words.{kept}
+use Rattle.judge.specs.Taps.{taps_fit}
+use Rattle.judge.proofs.taps_fit.Given as goal
+
+abbrev pub invariant-loop-k : goal.invariant-loop-k
+invariant-loop-k l = (l.k ≤ l.n) × (l.ok ≡ taps_fit l.taps l.k)
+
+abbrev pub decreases-loop-k : goal.decreases-loop-k
+decreases-loop-k l = l.n - l.k

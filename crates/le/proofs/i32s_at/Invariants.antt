@@ -1,0 +1,22 @@
+use Prim.Native.Nat.{◌+◌, ◌*◌, ◌-◌, ◌≤◌}
+use mathlib.Core.Path.{◌≡◌, refl}
+use mathlib.Core.List.{◌++◌, append-nil}
+use native.Mathlib.Nat.{le_antisymm}
+use native.Mathlib.Numerals.{add-one}
+use native.Mathlib.Omega.{arith}
+use lib.ListN.{length, drop}
+use lib.Seq.{drop-length}
+use mir.Syntax.{w32}
+use Rattle.word.specs.Tabulate.{tabulate}
+use Rattle.word.proofs.Lists.{tabulate-more}
+use Rattle.word.proofs.Words.{kept}
+use Rattle.le.specs.Bytes.{signed_at}
+use borrow.Author.Rules.{rules}
+use Rattle.le.proofs.i32s_at.Given as goal
+
+abbrev pub invariant-loop-i : goal.invariant-loop-i
+invariant-loop-i l =
+    (l.i ≤ l.i-end) × (l.i-end ≡ length l.initial.to) × (length l.to ≡ length l.initial.to) × (l.to ≡ tabulate l.i (λ k. signed_at w32 l.b (l.at + 4 * k)) ++ drop l.i l.initial.to)
+
+abbrev pub decreases-loop-i : goal.decreases-loop-i
+decreases-loop-i l = l.i-end - l.i

@@ -1,0 +1,19 @@
+use Prim.Native.Nat.{◌≤◌, ◌-◌}
+use mathlib.Core.Path.{◌≡◌, ◌∙◌, ap}
+use native.Mathlib.Nat.{le_antisymm}
+use native.Mathlib.Numerals.{add-one}
+use native.Mathlib.Omega.{arith}
+use lib.ListN.{length}
+use mir.Syntax.{w16}
+use Rattle.word.proofs.Words.{kept}
+use Rattle.le.specs.Bytes.{packed, with_bytes}
+use Rattle.le.proofs.Packing.{packed_none, packed_more}
+use borrow.Author.Rules.{rules}
+use Rattle.le.proofs.put16s.Given as goal
+
+abbrev pub invariant-loop-i : goal.invariant-loop-i
+invariant-loop-i l =
+    (l.i ≤ l.i-end) × (l.i-end ≡ length l.numbers) × (length l.to ≡ length l.initial.to) × (l.to ≡ with_bytes l.initial.to l.at (packed w16 l.numbers l.i))
+
+abbrev pub decreases-loop-i : goal.decreases-loop-i
+decreases-loop-i l = l.i-end - l.i

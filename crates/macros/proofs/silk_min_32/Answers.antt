@@ -1,0 +1,12 @@
+use mir.Syntax.{w32}
+use mir.Facts.{to_z-of_z}
+use Rattle.word.proofs.Words.{kept}
+use Rattle.macros.proofs.silk_min_32.Goals as goal
+
+pub returns : goal.returns
+returns c =
+    cc (
+      to_z-of_z c.ranges.a,
+      to_z-of_z c.ranges.b,
+      kept w32 c.min32.result c.min32.type_inv,
+    )

@@ -1,0 +1,22 @@
+use Prim.Native.Nat.{◌+◌, ◌-◌, ◌*◌, ◌/◌}
+use native.Mathlib.Numerals.{add-one}
+use native.Mathlib.Omega.{arith}
+use borrow.Author.Rules.{rules}
+use lib.IntN.{pos}
+use mir.Syntax.{w32}
+use Rattle.word.proofs.Words.{kept, got}
+use Rattle.nlsf.specs.Fit.{fit_chirp}
+use Rattle.nlsf.proofs.Chirps.{den_le, quotient_le, chirp_kept}
+use Rattle.nlsf.proofs.fit_chirp.Goals as goal
+
+pub overflow_mul-den : goal.overflow_mul-den
+overflow_mul-den c = omega (arith, den_le c.args.m c.args.place c.requires.1 c.requires.2)
+
+pub overflow_cast-num : goal.overflow_cast-num
+overflow_cast-num c = omega (arith, quotient_le c.args.m c.args.place c.requires.0 c.requires.1)
+
+pub returns : goal.returns
+unfolding fit_chirp
+returns c =
+    let q = quotient_le c.args.m c.args.place c.requires.0 c.requires.1 in
+    rw (got w32 c.sub32.type_inv c.sub32.ensures, kept w32 (pos ((c.args.m - 32767) * 16384 / (c.args.m * (c.args.place + 1) / 4))) (omega (arith, q)), chirp_kept 65470 _ (omega arith) q, add-one)

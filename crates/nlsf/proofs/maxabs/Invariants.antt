@@ -1,0 +1,17 @@
+use Prim.Native.Nat.{◌-◌, ◌≤◌}
+use mathlib.Core.Path.{◌≡◌, refl}
+use native.Mathlib.Nat.{le_antisymm}
+use native.Mathlib.Numerals.{add-one}
+use borrow.Author.Rules.{rules}
+use lib.IntN.{pos}
+use lib.ListN.{length, get_or}
+use mir.Syntax.{w32}
+use Rattle.word.proofs.Words.{kept, got}
+use Rattle.nlsf.specs.Fit.{maxabs}
+use Rattle.nlsf.proofs.maxabs.Given as goal
+
+abbrev pub invariant-loop-k : goal.invariant-loop-k
+invariant-loop-k l = (l.k ≤ l.k-end) × (l.k-end ≡ length l.a) × (l.p ≡ maxabs l.a l.k)
+
+abbrev pub decreases-loop-k : goal.decreases-loop-k
+decreases-loop-k l = l.k-end - l.k

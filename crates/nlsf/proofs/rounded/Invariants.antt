@@ -1,0 +1,26 @@
+use Prim.Native.Nat.{◌-◌, ◌≤◌}
+use mathlib.Core.Path.{◌≡◌, refl}
+use mathlib.Core.List.{◌++◌, map}
+use native.Mathlib.Nat.{le_antisymm}
+use native.Mathlib.Numerals.{add-one}
+use native.Mathlib.Omega.{arith}
+use borrow.Author.Rules.{rules}
+use lib.IntN.{ℤ, pos}
+use lib.ListN.{length, get_or, take, drop}
+use mir.Syntax.{w16, w32}
+use Rattle.word.specs.Int.{wrap16}
+use Rattle.word.proofs.Words.{kept, got}
+use Rattle.stability.proofs.Sums.{take_more}
+use Rattle.nlsf.specs.Fit.{in_q12, rounded}
+use Rattle.nlsf.proofs.Parts.{filled}
+use Rattle.nlsf.proofs.rounded.Given as goal
+
+abbrev pub round : ℤ → ℤ
+round x = wrap16 (in_q12 x)
+
+abbrev pub invariant-loop-k : goal.invariant-loop-k
+invariant-loop-k l =
+    (l.k ≤ l.k-end) × (l.k-end ≡ length l.a) × (length l.a_q12 ≡ length l.initial.a_q12) × (l.a_q12 ≡ map round (take l.k l.a) ++ drop l.k l.initial.a_q12)
+
+abbrev pub decreases-loop-k : goal.decreases-loop-k
+decreases-loop-k l = l.k-end - l.k

@@ -1,0 +1,31 @@
+use Prim.Native.Nat.{◌-◌, ◌<◌, ◌≤◌, ◌^◌}
+use mathlib.Core.Path.{◌≡◌, refl, ◌∙◌}
+use mathlib.Core.List.{◌++◌, map}
+use native.Mathlib.Nat.{le_antisymm}
+use native.Mathlib.Numerals.{add-one}
+use native.Mathlib.Omega.{arith}
+use borrow.Author.Rules.{rules}
+use lib.IntN.{ℤ, pos, ◌*ℤ◌}
+use lib.ListN.{length, get_or, take, drop, length-map}
+use lib.Seq.{length-take-le}
+use mir.Syntax.{w16, w32}
+use Rattle.word.specs.Int.{sat16}
+use Rattle.word.proofs.Words.{kept, got}
+use Rattle.stability.proofs.Sums.{take_more}
+use Rattle.nlsf.specs.Fit.{in_q12, saturated}
+use Rattle.nlsf.proofs.Parts.{rest_at, filled, scaled-kept}
+use Rattle.nlsf.proofs.saturated.Given as goal
+
+abbrev pub near : ℤ → ℤ
+near x = sat16 (in_q12 x)
+
+abbrev pub back : ℤ → ℤ
+back x = near x *ℤ pos (2 ^ 5)
+
+abbrev pub invariant-loop-k : goal.invariant-loop-k
+invariant-loop-k l =
+    (l.k ≤ l.k-end) × (l.k-end ≡ length l.initial.a) × (length l.a_q12 ≡ length l.initial.a_q12) × (length l.a ≡ length l.initial.a)
+    × (l.a_q12 ≡ map near (take l.k l.initial.a) ++ drop l.k l.initial.a_q12) × (l.a ≡ map back (take l.k l.initial.a) ++ drop l.k l.initial.a)
+
+abbrev pub decreases-loop-k : goal.decreases-loop-k
+decreases-loop-k l = l.k-end - l.k

@@ -1,0 +1,31 @@
+use Prim.Native.Nat.{ℕ, ◌-◌, ◌<◌, ◌≤◌}
+use mathlib.Core.Path.{◌≡◌, refl}
+use mathlib.Core.List.{List, ◌++◌, append-nil}
+use native.Mathlib.Nat.{le_antisymm}
+use native.Mathlib.Numerals.{add-one}
+use borrow.Author.Rules.{rules}
+use lib.IntN.{ℤ, pos}
+use lib.ListN.{length, get_or, drop}
+use lib.Seq.{drop-length}
+use mir.Syntax.{w32}
+use mir.Val.{to_z, of_z}
+use mir.Facts.{to_z-of_z}
+use Rattle.word.specs.Tabulate.{tabulate}
+use Rattle.word.proofs.Lists.{tabulate-more, length-tabulate}
+use Rattle.word.proofs.Words.{kept, got}
+use Rattle.macros.specs.Fixed.{smulww}
+use Rattle.nlsf.specs.Expand.{factor32, bwexpander32}
+use Rattle.nlsf.proofs.Parts.{rest_at}
+use Rattle.nlsf.proofs.silk_bwexpander_32.Given as goal
+
+-- coefficient j expanded
+abbrev pub expanded : ℤ → List ℤ → ℕ → ℤ
+expanded chirp a j = smulww (factor32 chirp j) (get_or a j (pos 0))
+
+abbrev pub invariant-loop-i : goal.invariant-loop-i
+invariant-loop-i l =
+    (l.i ≤ l.i-end) × (l.i-end ≡ length l.initial.ar) × (length l.ar ≡ length l.initial.ar)
+    × (to_z w32 l.f ≡ factor32 (to_z w32 l.chirp) l.i) × (l.ar ≡ tabulate l.i (expanded (to_z w32 l.chirp) l.initial.ar) ++ drop l.i l.initial.ar)
+
+abbrev pub decreases-loop-i : goal.decreases-loop-i
+decreases-loop-i l = l.i-end - l.i

@@ -1,0 +1,49 @@
+use Prim.Native.Nat.{◌-◌, ◌≤◌}
+use mathlib.Core.Path.{◌≡◌, sym, ◌∙◌}
+use mathlib.Core.Bool.{Bool}
+use native.Mathlib.Nat.{le_antisymm}
+use borrow.Author.Rules.{rules}
+use lib.IntN.{pos}
+use lib.ListN.{length}
+use lib.Signed.{lt_z}
+use mir.Syntax.{w32}
+use mir.Val.{to_z, of_z}
+use Rattle.word.proofs.Words.{kept, got}
+use Rattle.nlsf.specs.Fit.{maxabs, in_q12, lpc_fit}
+use Rattle.nlsf.proofs.Rounds.{length-bwexpander32, maxabs-place, fit-stops, fit-goes_on, fit_ends}
+use Rattle.nlsf.proofs.silk_lpc_fit.Goals.{After-in_q12-m}
+use Rattle.nlsf.proofs.silk_lpc_fit.Goals as goal
+
+-- the largest coefficient, in Q12
+largest : (c : After-in_q12-m) → let a = c.loop.a in c.in_q12-m.result ≡ in_q12 (maxabs a (length a)).size
+largest c = rw (c.in_q12-m.ensures, kept w32 c.maxabs-p.result.size c.struct_told-1.given.0.1, c.maxabs-p.ensures)
+
+within : {t : Bool} (c : After-in_q12-m) → let a = c.loop.a in
+    lt_z (pos 32767) (to_z w32 (of_z w32 c.in_q12-m.result)) ≡ t → lt_z (pos 32767) (in_q12 (maxabs a (length a)).size) ≡ t
+within c e = rw (got w32 c.in_q12-m.type_inv (largest c)) at e
+
+pub chirp_of-requires : goal.chirp_of-requires
+chirp_of-requires c =
+    let a = c.loop.a in
+    (c.if-m-gt32767.true, rw c.maxabs-p.ensures (maxabs-place a (length a) (search rules)))
+
+pub returns-else-m-gt32767 : goal.returns-else-m-gt32767
+returns-else-m-gt32767 c =
+    let t = c.loop-test.true in
+    rw (c.rounded.ensures, c.loop.invariant.3) (sym (fit-stops c.loop.a c.loop.counter t (within c.before.before.before.before.before c.if-m-gt32767.false)))
+
+pub loop-preserved : goal.loop-preserved
+loop-preserved c =
+    let t = c.loop-test.true in
+    let a = c.loop.a in (
+      search rules,
+      search rules,
+      rw (c.silk_bwexpander_32.ensures, length-bwexpander32) (search rules),
+      rw (c.silk_bwexpander_32.ensures, got w32 c.chirp_of.type_inv c.chirp_of.ensures, got w32 c.in_q12-m.type_inv (largest c.before.before.before.before.before), c.maxabs-p.ensures)
+          (c.loop.invariant.3 ∙ fit-goes_on a c.loop.counter t (within c.before.before.before.before.before c.if-m-gt32767.true)),
+    )
+
+pub returns : goal.returns
+returns c =
+    let e = le_antisymm c.loop.invariant.0 c.loop-test.false in
+    c.saturated.ensures ∙ sym (rw e at c.loop.invariant.3 ∙ fit_ends c.loop.a)

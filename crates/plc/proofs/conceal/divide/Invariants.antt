@@ -1,0 +1,28 @@
+use Prim.Native.Nat.{ℕ, ◌≤◌, ◌-◌}
+use mathlib.Core.Path.{◌≡◌, refl, ◌∙◌}
+use mathlib.Core.Bool.{cond}
+use mathlib.Core.List.{◌++◌}
+use native.Mathlib.Nat.{le_antisymm}
+use native.Mathlib.Omega.{arith}
+use borrow.Author.Rules.{rules}
+use borrow.Author.Tests.{le-ltb}
+use lib.Dec.{ltb}
+use lib.IntN.{pos}
+use lib.ListN.{length, get_or, drop}
+use mir.Syntax.{w16, w32}
+use mir.Val.{to_z}
+use mir.Facts.{to_z-of_z}
+use Rattle.word.specs.Tabulate.{tabulate}
+use Rattle.word.proofs.Words.{kept, got}
+use Rattle.macros.specs.Fixed.{smulwb}
+use Rattle.sigproc.proofs.Fill.{turn}
+use Rattle.plc.proofs.Fill.{zeros-before}
+use Rattle.plc.proofs.conceal.divide.Given as goal
+
+abbrev pub invariant-loop-i : goal.invariant-loop-i
+invariant-loop-i l =
+    (l.from ≤ l.i) × (l.i ≤ l.mem) × (length l.buf ≡ length l.initial.buf)
+    × (l.buf ≡ tabulate l.i (λ (k : ℕ). cond (ltb k l.from) (pos 0) (smulwb (to_z w32 l.inv_gain_q30) (get_or l.residual k (pos 0)))) ++ drop l.i l.initial.buf)
+
+abbrev pub decreases-loop-i : goal.decreases-loop-i
+decreases-loop-i l = l.mem - l.i

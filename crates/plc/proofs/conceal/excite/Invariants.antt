@@ -1,0 +1,29 @@
+use Prim.Native.Nat.{suc, ◌+◌, ◌≤◌, ◌-◌}
+use mathlib.Core.Path.{◌≡◌, refl, ◌∙◌}
+use mathlib.Core.List.{List}
+use native.Mathlib.Numerals.{add-one}
+use native.Mathlib.Nat.{le_antisymm}
+use native.Mathlib.Omega.{arith}
+use borrow.Author.Rules.{rules}
+use lib.IntN.{ℤ, pos}
+use lib.ListN.{length, get_or, take}
+use mir.Syntax.{w16, w32}
+use mir.Val.{to_z, of_z}
+use Rattle.word.proofs.Words.{kept, got}
+use Rattle.plc.specs.Conceal.{Voice, excited_times}
+use Rattle.plc.proofs.Excite.{seed_more, past_more}
+use Rattle.plc.proofs.conceal.excite.Given as goal
+
+-- what the loop starts from; nothing in it reads the pitch
+abbrev pub begun : List ℤ → List ℤ → ℤ → ℤ → ℤ → Voice
+begun past taps scale seed pitch =
+    record { past = past; taps = taps; scale = scale; pitch = pitch; seed = seed }
+
+abbrev pub invariant-loop-i : goal.invariant-loop-i
+invariant-loop-i l =
+    (l.i ≤ l.n) × (length l.buf ≡ length l.initial.buf)
+    × ((z : ℤ) → to_z w32 l.seed ≡ (excited_times l.exc l.from l.lag l.i (begun (take l.at l.initial.buf) l.taps (to_z w16 l.scale) (to_z w32 l.initial.seed) z)).seed)
+    × ((z : ℤ) → take (l.at + l.i) l.buf ≡ (excited_times l.exc l.from l.lag l.i (begun (take l.at l.initial.buf) l.taps (to_z w16 l.scale) (to_z w32 l.initial.seed) z)).past)
+
+abbrev pub decreases-loop-i : goal.decreases-loop-i
+decreases-loop-i l = l.n - l.i

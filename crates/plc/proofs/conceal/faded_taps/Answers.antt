@@ -1,0 +1,36 @@
+use Prim.Native.Nat.{ℕ, ◌≤◌, ◌-◌}
+use mathlib.Core.Path.{◌≡◌, refl, ◌∙◌}
+use mathlib.Core.List.{◌++◌, map}
+use native.Mathlib.Nat.{le_antisymm}
+use native.Mathlib.Omega.{arith}
+use borrow.Author.Rules.{rules}
+use lib.IntN.{pos}
+use lib.ListN.{length, get_or, drop}
+use mir.Syntax.{w16, w32}
+use mir.Val.{to_z}
+use mir.Facts.{to_z-of_z}
+use Rattle.word.specs.Tabulate.{tabulate}
+use Rattle.word.proofs.Words.{kept, got}
+use Rattle.sigproc.proofs.Fill.{turn, filled, map-table}
+use Rattle.plc.specs.Conceal.{faded}
+use Rattle.plc.proofs.conceal.faded_taps.Goals as goal
+
+pub loop-j-init : goal.loop-j-init
+unfolding tabulate
+loop-j-init c = (search rules, search rules, search rules, search rules, refl)
+
+pub loop-j-preserved : goal.loop-j-preserved
+loop-j-preserved c =
+    let a = c.args in (
+      search rules,
+      search rules,
+      search rules,
+      search rules,
+      turn a.t1 _ c.loop-j.j c.loop-j.b _ (omega arith) c.loop-j.invariant.4 (got w16 c.faded.type_inv (c.faded.ensures ∙ rw (kept w16 (get_or a.t1 c.loop-j.j (pos 0)) c.faded-arg-1.given))),
+    )
+
+pub returns : goal.returns
+returns c =
+    let l = c.loop-j in
+    rw (l.invariant.4, le_antisymm l.invariant.0 c.loop-j-test.false, to_z-of_z c.ranges.gain, filled (tabulate 5 (λ (k : ℕ). faded c.args.gain (get_or c.args.t1 k (pos 0)))) c.args.t1 5 (omega arith))
+    (rw l.invariant.2 at (map-table (faded c.args.gain) c.args.t1))

@@ -1,0 +1,24 @@
+use Prim.Native.Nat.{ℕ, ◌≤◌, ◌-◌}
+use mathlib.Core.Path.{◌≡◌, refl, ◌∙◌}
+use mathlib.Core.List.{◌++◌, map}
+use native.Mathlib.Nat.{le_antisymm}
+use native.Mathlib.Omega.{arith}
+use borrow.Author.Rules.{rules}
+use lib.IntN.{pos}
+use lib.ListN.{length, get_or, drop}
+use mir.Syntax.{w16, w32}
+use mir.Val.{to_z}
+use mir.Facts.{to_z-of_z}
+use Rattle.word.specs.Tabulate.{tabulate}
+use Rattle.word.proofs.Words.{kept, got}
+use Rattle.sigproc.proofs.Fill.{turn, filled, map-table}
+use Rattle.plc.specs.Conceal.{faded}
+use Rattle.plc.proofs.conceal.faded_taps.Given as goal
+
+abbrev pub invariant-loop-j : goal.invariant-loop-j
+invariant-loop-j l =
+    (l.j ≤ 5) × (length l.b ≡ 5) × (length l.taps ≡ 5) × (length l.initial.b ≡ 5)
+    × (l.b ≡ tabulate l.j (λ (k : ℕ). faded (to_z w32 l.gain) (get_or l.taps k (pos 0))) ++ drop l.j l.initial.b)
+
+abbrev pub decreases-loop-j : goal.decreases-loop-j
+decreases-loop-j l = 5 - l.j

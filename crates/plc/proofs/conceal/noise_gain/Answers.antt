@@ -1,0 +1,36 @@
+use mathlib.Core.Path.{refl, ◌∙◌}
+use borrow.Author.Rules.{rules}
+use lib.Dec.{lit<}
+use lib.ListN.{take}
+use mir.Syntax.{w32}
+use mir.Facts.{to_z-of_z}
+use Rattle.word.proofs.Order.{is, isnt}
+use Rattle.word.proofs.Words.{got}
+use Rattle.stability.proofs.Gains.{inverse_gain_lem}
+use Rattle.plc.specs.Conceal.{noise_gain}
+use Rattle.plc.proofs.Gain.{limited-kept}
+use Rattle.plc.proofs.conceal.noise_gain.Goals as goal
+
+pub returns-in-2 : goal.returns-in-2
+unfolding noise_gain
+returns-in-2 c =
+    rw (is w32 _ 2 (lit< tt) c.ranges.«prev-signal-type» c.in-2.keys1, got w32 c.by_loss.type_inv c.by_loss.ensures, to_z-of_z c.ranges.«loss-cnt»)
+
+pub returns-then-loss_cnt-eq0 : goal.returns-then-loss_cnt-eq0
+unfolding noise_gain
+returns-then-loss_cnt-eq0 c =
+    let g = inverse_gain_lem c.args.edition (take c.args.d c.args.a.now) in
+    rw (
+      isnt w32 c.args.«prev-signal-type» 2 c.in-2.rest.1,
+      is w32 _ 0 (lit< tt) c.ranges.«loss-cnt» c.if-loss_cnt-eq0.true,
+      got w32 c.limited_gain.type_inv c.limited_gain.ensures,
+      got w32 c.inverse_pred_gain.type_inv c.inverse_pred_gain.ensures,
+      to_z-of_z c.ranges.edition,
+      g.1,
+      limited-kept g.0,
+    )
+
+pub returns-else-loss_cnt-eq0 : goal.returns-else-loss_cnt-eq0
+unfolding noise_gain
+returns-else-loss_cnt-eq0 c =
+    rw (isnt w32 c.args.«prev-signal-type» 2 c.in-2.rest.1, isnt w32 c.args.«loss-cnt» 0 c.if-loss_cnt-eq0.false)

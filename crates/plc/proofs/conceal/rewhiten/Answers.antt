@@ -1,0 +1,20 @@
+use Prim.Native.Nat.{◌≤◌}
+use mathlib.Core.Path.{◌≡◌, ap}
+use mathlib.Core.List.{List, ◌++◌}
+use native.Mathlib.Omega.{arith}
+use borrow.Author.Rules.{rules}
+use lib.IntN.{ℤ, pos}
+use lib.ListN.{length, drop, replicate, length-replicate}
+use mir.Facts.{to_z-of_z}
+use Rattle.plc.proofs.Rewhiten.{rewhitened-part}
+use Rattle.plc.proofs.conceal.rewhiten.Goals as goal
+
+pub divide-requires : goal.divide-requires
+divide-requires c =
+    (search rules, search rules, search rules, c.requires.5)
+
+pub returns : goal.returns
+returns c =
+    let a = c.args in
+    rw (c.divide.ensures, c.silk_lpc_analysis_filter.ensures, to_z-of_z c.ranges.«inv-gain-q30»)
+    (ap (λ (xs : List ℤ). xs ++ drop a.mem a.buf.now) (rewhitened-part c.no_samples-s_ltp.result a.«out-buf».now a.a.now a.«inv-gain-q30» a.d a.mem a.lag (omega arith) (omega arith) (search rules)))

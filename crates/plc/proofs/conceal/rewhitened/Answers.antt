@@ -1,0 +1,60 @@
+use Prim.Native.Nat.{◌*◌, ◌≤◌}
+use mathlib.Core.Path.{◌≡◌, refl, ap, ◌∙◌}
+use native.Mathlib.Omega.{arith}
+use borrow.Author.Rules.{rules}
+use lib.IntN.{pos}
+use lib.ListN.{get_or, take}
+use lib.Seq.{take_at}
+use mir.Syntax.{w32}
+use mir.Facts.{to_z-of_z}
+use Rattle.word.proofs.Words.{kept, got}
+use Rattle.word.proofs.Lists.{length-tabulate}
+use Rattle.shape.specs.Shape.{rate_of}
+use Rattle.shape.proofs.Shapes.{rate_le}
+use Rattle.decoder.proofs.Between.{Between, between}
+use Rattle.plc.specs.Conceal.{inverse_gain_q30, lag_of, rewhitened}
+use Rattle.plc.proofs.Pitch.{lag_range}
+use Rattle.plc.proofs.conceal.rewhitened.Goals.{After-lag_of-lag, After-ltp_mem_length-mem}
+use Rattle.plc.proofs.conceal.rewhitened.Goals as goal
+
+-- the lag, and its range
+lag_is : (c : After-lag_of-lag) → c.lag_of-lag.result ≡ lag_of c.args.h.pitch_l_q8
+lag_is c =
+    c.lag_of-lag.ensures ∙ ap lag_of (kept w32 c.args.h.pitch_l_q8 c.struct_told-1.given.0.1)
+
+in_range : (c : After-lag_of-lag) → let a = c.args in Between (2 * rate_of a.khz) (18 * rate_of a.khz) (lag_of a.h.pitch_l_q8)
+in_range c =
+    let r = rate_of c.args.khz in
+    lag_range r c.args.h.pitch_l_q8 (between (512 * r) (4608 * r) c.args.h.pitch_l_q8 c.requires.6)
+
+-- the history's length
+mem : (c : After-ltp_mem_length-mem) → c.ltp_mem_length-mem.result ≡ 20 * rate_of c.args.khz
+mem c = c.ltp_mem_length-mem.ensures ∙ rw (to_z-of_z c.ranges.khz)
+
+pub overflow_cast-lag : goal.overflow_cast-lag
+overflow_cast-lag c =
+    let b = in_range c in
+    rw (kept w32 c.lag_of-lag.result c.lag_of-lag.type_inv, lag_is c, b.is) (tt, omega (arith, b.high, rate_le c.args.khz))
+
+pub rewhiten-requires : goal.rewhiten-requires
+rewhiten-requires c =
+    let b = in_range c.before.before.before.before in
+    let r = rate_le c.args.khz in
+    rw (kept w32 c.lag_of-lag.result c.lag_of-lag.type_inv, lag_is c.before.before.before.before, mem c.before.before.before)
+    (c.requires.0, omega (arith, b.high), omega arith, omega arith, omega arith, c.requires.5)
+
+pub returns : goal.returns
+unfolding rewhitened inverse_gain_q30
+returns c =
+    let a = c.args in
+    let n = 20 * rate_of a.khz in
+    let e =
+    rw (
+      kept w32 c.lag_of-lag.result c.lag_of-lag.type_inv,
+      lag_is c.before.before.before.before.before.before,
+      got w32 c.inverse_gain.type_inv c.inverse_gain.ensures,
+      kept w32 (get_or a.h.prev_gain_q16 1 (pos 0)) c.inverse_gain-arg-1.given,
+      mem c.before.before.before.before.before,
+      c.requires.1,
+    ) at c.rewhiten.ensures in
+    ap (take n) e ∙ take_at _ _ n (length-tabulate n _)

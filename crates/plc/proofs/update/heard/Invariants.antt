@@ -1,0 +1,30 @@
+use Prim.Native.Nat.{ℕ, ◌≤◌, ◌-◌, ◌^◌}
+use mathlib.Core.Path.{◌≡◌, refl, ◌∙◌}
+use mathlib.Core.List.{◌++◌}
+use native.Mathlib.Nat.{le_antisymm}
+use native.Mathlib.Omega.{arith}
+use borrow.Author.Rules.{rules}
+use lib.IntN.{ℤ, pos}
+use lib.ListN.{length, get_or, drop}
+use mir.Syntax.{w16, w32}
+use mir.Val.{to_z}
+use mir.Facts.{to_z-of_z}
+use Rattle.word.specs.Int.{floor_div, sat16}
+use Rattle.word.specs.Tabulate.{tabulate}
+use Rattle.word.proofs.Words.{kept}
+use Rattle.macros.specs.Fixed.{smulww}
+use Rattle.plc.specs.Conceal.{heard_by}
+use Rattle.sigproc.proofs.Fill.{turn, filled, map-table}
+use Rattle.plc.proofs.update.heard.Given as goal
+
+-- a sample played by a gain (Q10)
+abbrev pub by : ℤ → ℤ → ℤ
+by gain e = sat16 (floor_div (smulww e gain) (2 ^ 8))
+
+abbrev pub invariant-loop-i : goal.invariant-loop-i
+invariant-loop-i l =
+    (l.i ≤ l.i-end) × (l.i-end ≡ length l.exc) × (length l.part ≡ length l.initial.part)
+    × (l.part ≡ tabulate l.i (λ (k : ℕ). by (to_z w32 l.gain_q10) (get_or l.exc k (pos 0))) ++ drop l.i l.initial.part)
+
+abbrev pub decreases-loop-i : goal.decreases-loop-i
+decreases-loop-i l = l.i-end - l.i

@@ -1,0 +1,26 @@
+use mathlib.Core.Path.{◌≡◌}
+use mir.Syntax.{w32}
+use mir.Val.{to_z, of_z}
+use Rattle.word.proofs.Words.{kept}
+use Rattle.decoder.specs.With.{with_type, with_plc}
+use Rattle.decoder.specs.State.{shape_of}
+use Rattle.plc.specs.Update.{updated_by, plc_update}
+use Rattle.plc.proofs.update.plc_update.Goals.{After-struct_told-2-1}
+use Rattle.plc.proofs.update.plc_update.Goals as goal
+
+-- the count as it was read
+nb : (c : After-struct_told-2-1) → let s = c.args.s in to_z w32 (of_z w32 s.nb_subfr) ≡ s.nb_subfr
+nb c = kept w32 _ c.struct_told-2-1.given.1.1.1.1.1.1.0.1
+
+pub received-p-requires : goal.received-p-requires
+received-p-requires c = rw (nb c) c.requires
+
+pub returns : goal.returns
+unfolding plc_update
+returns c =
+    let a = c.args in
+    let s = a.s in
+    let khz = kept w32 s.fs_khz c.struct_told-1.given.1.1.1.1.1.0.1 in
+    let type = c.type_number.ensures in
+    let plc : c.received-p.result ≡ updated_by (shape_of s) a.signal a.c a.rows s.s_plc = rw (c.received-p.ensures, khz, nb c.before.before) in
+    λ i. with_plc (with_type s (type i)) (plc i)

@@ -1,0 +1,42 @@
+use mathlib.Core.Path.{◌≡◌, sym, ◌∙◌}
+use mathlib.Core.Bool.{false}
+use lib.ListN.{length}
+use mir.Syntax.{w32}
+use Rattle.word.proofs.Words.{kept}
+use Rattle.layout.specs.Frame.{short_call}
+use Rattle.post.specs.Calls.{called}
+use Rattle.post.specs.Stages.{frame_call}
+use Rattle.post.proofs.Ends.{ended}
+use Rattle.post.proofs.post_frame.Goals.{Else-short_call}
+use Rattle.post.proofs.post_frame.Goals as goal
+
+-- no slice is too short
+long : (c : Else-short_call) → let a = c.args in short_call (length a.words.now) (length a.halves.now) (length a.frame.now) (length a.coefs.now) ≡ false
+long c = sym c.short_call.ensures ∙ c.if-short_call.false
+
+pub returns-then-short_call : goal.returns-then-short_call
+unfolding frame_call called
+returns-then-short_call c = rw (sym c.short_call.ensures ∙ c.if-short_call.true)
+
+pub play_frame-requires : goal.play_frame-requires
+play_frame-requires c = long c.before.before.before.before.before
+
+pub shape_of-words : goal.shape_of-words
+shape_of-words c = c.play_frame.auto.0
+
+pub shape_of-halves : goal.shape_of-halves
+shape_of-halves c = c.play_frame.auto.1.0
+
+pub shape_of-frame : goal.shape_of-frame
+shape_of-frame c = c.play_frame.auto.1.1.0
+
+pub shape_of-coefs : goal.shape_of-coefs
+shape_of-coefs c = c.play_frame.auto.1.1.1.0
+
+pub shape_of-output : goal.shape_of-output
+shape_of-output c = c.play_frame.auto.1.1.1.1.1.0
+
+pub returns : goal.returns
+unfolding frame_call
+returns c =
+    ended _ _ (long c.before.before.before.before.before.before.before.before.before.before.before.before) (kept w32 _ c.code.type_inv ∙ c.code.ensures) c.play_frame.ensures

@@ -1,0 +1,36 @@
+use mathlib.Core.Path.{◌≡◌, sym, ◌∙◌}
+use mathlib.Core.Bool.{false}
+use lib.ListN.{length}
+use mir.Syntax.{w32}
+use Rattle.word.proofs.Words.{kept}
+use Rattle.layout.specs.Layout.{short_state}
+use Rattle.post.specs.Calls.{called}
+use Rattle.post.specs.Stages.{glue_call}
+use Rattle.post.proofs.Ends.{ended}
+use Rattle.post.proofs.post_glue.Goals.{Else-short_state}
+use Rattle.post.proofs.post_glue.Goals as goal
+
+-- no slice is too short
+long : (c : Else-short_state) → let a = c.args in short_state (length a.words.now) (length a.halves.now) ≡ false
+long c = sym c.short_state.ensures ∙ c.if-short_state.false
+
+pub returns-then-short_state : goal.returns-then-short_state
+unfolding glue_call called
+returns-then-short_state c = rw (sym c.short_state.ensures ∙ c.if-short_state.true)
+
+pub glue-requires : goal.glue-requires
+glue-requires c = long c.before.before.before
+
+pub shape_of-words : goal.shape_of-words
+shape_of-words c = c.glue.auto.0
+
+pub shape_of-halves : goal.shape_of-halves
+shape_of-halves c = c.glue.auto.1.0
+
+pub shape_of-buffer : goal.shape_of-buffer
+shape_of-buffer c = c.glue.auto.1.1.0
+
+pub returns : goal.returns
+unfolding glue_call
+returns c =
+    ended _ _ (long c.before.before.before.before.before.before.before.before) (kept w32 _ c.code.type_inv ∙ c.code.ensures) c.glue.ensures

@@ -1,0 +1,36 @@
+use mathlib.Core.Path.{◌≡◌, sym, ◌∙◌}
+use mathlib.Core.Bool.{false}
+use lib.ListN.{length}
+use mir.Syntax.{w32}
+use Rattle.word.proofs.Words.{kept}
+use Rattle.layout.specs.Frame.{short_frame}
+use Rattle.post.specs.Calls.{called}
+use Rattle.post.specs.Stages.{noise_call}
+use Rattle.post.proofs.Ends.{ended}
+use Rattle.post.proofs.post_noise.Goals.{Else-short_frame}
+use Rattle.post.proofs.post_noise.Goals as goal
+
+-- no slice is too short
+long : (c : Else-short_frame) → let a = c.args in short_frame (length a.words.now) (length a.halves.now) (length a.frame.now) ≡ false
+long c = sym c.short_frame.ensures ∙ c.if-short_frame.false
+
+pub returns-then-short_frame : goal.returns-then-short_frame
+unfolding noise_call called
+returns-then-short_frame c = rw (sym c.short_frame.ensures ∙ c.if-short_frame.true)
+
+pub noise-requires : goal.noise-requires
+noise-requires c = long c.before.before.before
+
+pub shape_of-words : goal.shape_of-words
+shape_of-words c = c.noise.auto.0
+
+pub shape_of-halves : goal.shape_of-halves
+shape_of-halves c = c.noise.auto.1.0
+
+pub shape_of-buffer : goal.shape_of-buffer
+shape_of-buffer c = c.noise.auto.1.1.1.0
+
+pub returns : goal.returns
+unfolding noise_call
+returns c =
+    ended _ _ (long c.before.before.before.before.before.before.before.before) (kept w32 _ c.code.type_inv ∙ c.code.ensures) c.noise.ensures

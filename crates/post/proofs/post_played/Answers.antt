@@ -1,0 +1,43 @@
+use Prim.Native.Nat.{ℕ, ◌<◌, ◌≤◌, zero-le}
+use mathlib.Core.Path.{◌≡◌, refl, ap, ◌∙◌}
+use mathlib.Core.Bool.{Bool, true, false, cond}
+use borrow.Author.Tests.{leb-true}
+use native.Mathlib.Omega.{arith}
+use lib.Dec.{leb}
+use lib.IntN.{pos}
+use lib.ListN.{length}
+use lib.Seq.{length-take-le}
+use mir.Syntax.{w32}
+use mir.Facts.{to_z-of_z, to_z_pos}
+use Rattle.shape.specs.Shape.{Shape, shape, frame_length}
+use Rattle.decoder.specs.Played.{played_length}
+use Rattle.decoder.proofs.Tests.{small-frame}
+use Rattle.post.proofs.post_played.Goals.{After-played-part}
+use Rattle.post.proofs.post_played.Goals as goal
+
+-- no more than is lent is played, and no more than a frame
+most : (p : Shape) (n : ℕ) → (played_length p n ≤ n) × (played_length p n ≤ frame_length p)
+unfolding played_length
+most p n = go (leb (frame_length p) n) refl
+  where
+    go : (b : Bool) → leb (frame_length p) n ≡ b → (cond b (frame_length p) 0 ≤ n) × (cond b (frame_length p) 0 ≤ frame_length p)
+    go true e = (leb-true (frame_length p) n e, omega arith)
+    go false e = (zero-le, zero-le)
+
+-- the length of the part
+part : (c : After-played-part) → let a = c.args in length c.played-part.result.now ≡ played_length (shape a.rate a.subframes) (length a.output.now)
+part c =
+    let n = length c.args.output.now in
+    let e = rw (to_z-of_z c.ranges.rate, to_z-of_z c.ranges.subframes) at c.played-part.ensures.0 in
+    ap length e ∙ length-take-le _ c.args.output.now (most (shape c.args.rate c.args.subframes) n).0
+
+small : (c : After-played-part) → length c.played-part.result.now < 2147483648
+small c =
+    let a = c.args in
+    omega (arith, part c, (most (shape a.rate a.subframes) (length a.output.now)).1, small-frame a.rate a.subframes)
+
+pub overflow_cast-result : goal.overflow_cast-result
+overflow_cast-result c = record { sfits = small c }
+
+pub returns : goal.returns
+returns c = to_z_pos w32 {n = length c.played-part.result.now} (omega (arith, small c)) ∙ ap pos (part c)

@@ -1,0 +1,15 @@
+use mathlib.Core.Path.{◌∙◌}
+use mathlib.Core.List.{[]}
+use borrow.Author.Rules.{rules}
+use mir.Syntax.{w32}
+use mir.Facts.{to_z-of_z}
+use Rattle.word.proofs.Words.{kept}
+use Rattle.slices.specs.Slices.{slices}
+use Rattle.post.specs.Stages.{set_up_call}
+use Rattle.post.proofs.post_set_up_with.Goals as goal
+
+pub returns : goal.returns
+returns c =
+    let a = c.args in
+    rw (kept w32 c.set_up.result c.set_up.type_inv)
+    (c.set_up.ensures ∙ λ i. set_up_call (to_z-of_z c.ranges.rate i) (to_z-of_z c.ranges.subframes i) (record { squelch = to_z-of_z c.ranges.squelch i; edition = to_z-of_z c.ranges.edition i }) (slices a.words.now a.halves.now [] [] [] []))

@@ -1,0 +1,49 @@
+use mathlib.Core.Path.{◌≡◌, refl, sym, ap, ◌∙◌}
+use borrow.Author.Rules.{rules}
+use borrow.Author.Tests.{lt-ltb, le-ltb}
+use lib.IntN.{pos}
+use lib.ListN.{length}
+use mir.Syntax.{w32}
+use mir.Facts.{to_z-of_z}
+use Rattle.word.proofs.Words.{got}
+use Rattle.refusal.specs.Refusals.{refusal_number}
+use Rattle.stability.specs.Stability.{tested_under}
+use Rattle.sentence.specs.Sentence.{sentence_of}
+use Rattle.post_filters.specs.Calls.{called, sentence_call}
+use Rattle.post_filters.proofs.Ends.{refused, accepted}
+use Rattle.post_filters.proofs.post_sentence.Goals.{After-number, After-sentence_of-sentence, After-silk_lpc_inverse_pred_gain_under-t}
+use Rattle.post_filters.proofs.post_sentence.Goals as goal
+
+-- the test's answer, and the number of its refusal
+answered : (c : After-silk_lpc_inverse_pred_gain_under-t) → let s = c.args in c.silk_lpc_inverse_pred_gain_under-t.result ≡ tested_under s.coefficients.now s.order s.edition
+answered c = rw (c.silk_lpc_inverse_pred_gain_under-t.ensures, to_z-of_z c.ranges.edition)
+
+why : (c : After-number) → let s = c.args in c.number.result ≡ refusal_number (tested_under s.coefficients.now s.order s.edition).refusal
+why c = c.number.ensures ∙ ap (λ t. refusal_number t.refusal) (answered c.before)
+
+letters-long : (c : After-sentence_of-sentence) → length c.sentence_of-sentence.result.letters ≡ 64
+letters-long c = search rules
+
+pub returns-then-text-lt64 : goal.returns-then-text-lt64
+unfolding sentence_call called
+returns-then-text-lt64 c = rw (lt-ltb (length c.args.text.now) 64 c.if-text-lt64.true) refl
+
+pub returns-then-number-ne0 : goal.returns-then-number-ne0
+unfolding sentence_call
+returns-then-number-ne0 c =
+    let s = c.args in
+    let u = tested_under s.coefficients.now s.order s.edition in
+    let e = got w32 c.code.type_inv c.code.ensures ∙ ap (λ c.before.before.before. pos (refusal_number c.refusal)) (answered c.before.before.before) in
+    rw (le-ltb (length s.text.now) 64 c.if-text-lt64.false)
+    ((λ i. record { answer = e i; slice = s.text.now })
+    ∙ sym (refused u.refusal (sentence_of u.answer).letters s.text.now (λ z. c.if-number-ne0.true (why c.before.before ∙ z))))
+
+pub returns : goal.returns
+unfolding sentence_call
+returns c =
+    let s = c.args in
+    let u = tested_under s.coefficients.now s.order s.edition in
+    let e = ap (λ x. x.letters) (c.sentence_of-sentence.ensures ∙ ap (λ c.before.before.before.before.before.before.before.before. sentence_of c.answer) (answered c.before.before.before.before.before.before.before.before)) in
+    let m : length (sentence_of u.answer).letters ≡ 64 = sym (ap length e) ∙ letters-long c.before.before.before.before.before in
+    rw (le-ltb (length s.text.now) 64 c.if-text-lt64.false, c.put_letters.ensures, e)
+    (sym (accepted u.refusal (sentence_of u.answer).letters s.text.now (sym (why c.before.before.before.before.before.before.before) ∙ c.if-number-ne0.false) ∙ rw m refl))

@@ -1,0 +1,48 @@
+use mathlib.Core.Path.{◌≡◌, refl, sym, ap, ◌∙◌}
+use mathlib.Core.List.{[], ◌∷◌}
+use native.Mathlib.Omega.{arith}
+use borrow.Author.Rules.{rules}
+use borrow.Author.Tests.{lt-ltb, le-ltb}
+use lib.IntN.{pos}
+use lib.ListN.{length}
+use mir.Syntax.{w32}
+use mir.Facts.{to_z-of_z, to_z_pos}
+use Rattle.word.proofs.Words.{got}
+use Rattle.refusal.specs.Refusals.{refusal_number}
+use Rattle.stability.specs.Stability.{answer_number, answer_value, tested_under}
+use Rattle.post_filters.specs.Calls.{called, stability_call}
+use Rattle.post_filters.proofs.Ends.{refused, accepted, set-two}
+use Rattle.post_filters.proofs.post_stability.Goals.{After-number, After-silk_lpc_inverse_pred_gain_under-t}
+use Rattle.post_filters.proofs.post_stability.Goals as goal
+
+-- the test's answer, and the number of its refusal
+answered : (c : After-silk_lpc_inverse_pred_gain_under-t) → let s = c.args in c.silk_lpc_inverse_pred_gain_under-t.result ≡ tested_under s.coefficients.now s.order s.edition
+answered c = rw (c.silk_lpc_inverse_pred_gain_under-t.ensures, to_z-of_z c.ranges.edition)
+
+why : (c : After-number) → let s = c.args in c.number.result ≡ refusal_number (tested_under s.coefficients.now s.order s.edition).refusal
+why c = c.number.ensures ∙ ap (λ t. refusal_number t.refusal) (answered c.before)
+
+pub returns-then-answer-lt2 : goal.returns-then-answer-lt2
+unfolding stability_call called
+returns-then-answer-lt2 c = rw (lt-ltb (length c.args.answer.now) 2 c.if-answer-lt2.true) refl
+
+pub returns-then-number-ne0 : goal.returns-then-number-ne0
+unfolding stability_call
+returns-then-number-ne0 c =
+    let s = c.args in
+    let u = tested_under s.coefficients.now s.order s.edition in
+    let e = got w32 c.code.type_inv c.code.ensures ∙ ap (λ c.before.before.before. pos (refusal_number c.refusal)) (answered c.before.before.before) in
+    rw (le-ltb (length s.answer.now) 2 c.if-answer-lt2.false)
+    ((λ i. record { answer = e i; slice = s.answer.now })
+    ∙ sym (refused u.refusal (pos (answer_number u.answer) ∷ answer_value u.answer ∷ []) s.answer.now (λ z. c.if-number-ne0.true (why c.before.before ∙ z))))
+
+pub returns : goal.returns
+unfolding stability_call
+returns c =
+    let s = c.args in
+    let u = tested_under s.coefficients.now s.order s.edition in
+    let k = answered c.before.before.before.before in
+    let x = to_z_pos w32 {c.before.before.before = c.answer_number.result} (omega (arith, c.answer_number.type_inv)) ∙ ap pos c.answer_number.ensures ∙ ap (λ c.before.before.before.before. pos (answer_number c.answer)) k in
+    let y = got w32 c.answer_value.type_inv c.answer_value.ensures ∙ ap (λ c.before.before.before.before. answer_value c.answer) k in
+    rw (le-ltb (length s.answer.now) 2 c.if-answer-lt2.false, x, y, set-two s.answer.now (pos (answer_number u.answer)) (answer_value u.answer) c.if-answer-lt2.false)
+    (sym (accepted u.refusal (pos (answer_number u.answer) ∷ answer_value u.answer ∷ []) s.answer.now (sym (why c.before.before.before) ∙ c.if-number-ne0.false)))

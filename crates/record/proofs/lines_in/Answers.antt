@@ -1,0 +1,7 @@
+use Rattle.record.specs.Record.{lines_in}
+use borrow.Author.Rules.{rules}
+use Rattle.record.proofs.lines_in.Goals as goal
+
+pub returns : goal.returns
+unfolding lines_in
+returns c = c.i16s16_at.ensures

@@ -1,0 +1,7 @@
+use Rattle.recording.specs.Frames.{is_head}
+use borrow.Author.Rules.{rules}
+use Rattle.recording.proofs.is_head.Goals as goal
+
+pub returns : goal.returns
+unfolding is_head
+returns c = cc

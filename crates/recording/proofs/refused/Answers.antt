@@ -1,0 +1,5 @@
+use borrow.Author.Rules.{rules}
+use Rattle.recording.proofs.refused.Goals as goal
+
+pub returns : goal.returns
+returns c = rw c.no_records-records.ensures

@@ -1,0 +1,22 @@
+use lib.Dec.{lit<}
+use mir.Syntax.{w32}
+use Rattle.word.proofs.Order.{key}
+use Rattle.shape.specs.Shape.{is_rate, rate_of}
+use Rattle.shape.proofs.Shapes.{no_rate}
+use Rattle.shape.proofs.Rate.lag_max.Goals as goal
+
+pub returns-in-8 : goal.returns-in-8
+unfolding is_rate rate_of
+returns-in-8 c = rw (key w32 c.args.khz 8 (lit< tt) c.ranges.khz c.in-8.keys1)
+
+pub returns-in-12 : goal.returns-in-12
+unfolding is_rate rate_of
+returns-in-12 c = rw (key w32 c.args.khz 12 (lit< tt) c.ranges.khz c.in-8.keys2)
+
+pub returns-in-16 : goal.returns-in-16
+unfolding is_rate rate_of
+returns-in-16 c = rw (key w32 c.args.khz 16 (lit< tt) c.ranges.khz c.in-8.keys3)
+
+pub returns-in_default : goal.returns-in_default
+unfolding rate_of
+returns-in_default c = rw (no_rate c.args.khz c.in-8.rest.0.0.1 c.in-8.rest.0.1 c.in-8.rest.1)

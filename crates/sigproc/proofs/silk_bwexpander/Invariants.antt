@@ -1,0 +1,11 @@
+use Rattle.std.proofs.Common.{◌≡◌, ◌-◌, ◌≤◌, refl, le_refl, le_antisymm, add-one, to_z-of_z, w16, w32, to_z, of_z, rules}
+use Rattle.word.proofs.Words.{kept}
+use Rattle.sigproc.specs.Expand.{factor, bwexpander}
+use Rattle.sigproc.proofs.Shrink.{expand_past}
+use Rattle.sigproc.proofs.silk_bwexpander.Given as goal
+
+abbrev pub invariant-loop-j : goal.invariant-loop-j
+invariant-loop-j l = (l.j ≤ l.d) × (to_z w32 l.f ≡ factor (to_z w32 l.chirp_q16) l.j) × (l.ar ≡ bwexpander (to_z w32 l.chirp_q16) l.initial.ar l.j)
+
+abbrev pub decreases-loop-j : goal.decreases-loop-j
+decreases-loop-j l = l.d - l.j

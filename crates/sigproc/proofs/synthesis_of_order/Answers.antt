@@ -1,0 +1,35 @@
+use Rattle.std.proofs.Common.{◌≡◌, suc, ◌+◌, ◌-◌, ◌≤◌, ◌++◌, length, get_or, take, drop, pos, sym, refl, le_antisymm, add-one, arith, take-append-drop, w32, rules}
+use Rattle.word.proofs.Words.{kept}
+use Rattle.sigproc.specs.Synthesis.{synthesis}
+use Rattle.sigproc.proofs.Fill.{filled}
+use Rattle.sigproc.proofs.InPlace.{synthesis-turn}
+use Rattle.sigproc.proofs.synthesis_of_order.Goals as goal
+
+pub loop-i-init : goal.loop-i-init
+unfolding synthesis
+loop-i-init c = (search rules, search rules, refl, sym (take-append-drop 16 c.args.buf.now))
+
+pub loop-i-preserved : goal.loop-i-preserved
+loop-i-preserved c =
+    let a = c.args in
+    let e : 16 + (c.loop-i.i + 1) ≡ suc (16 + c.loop-i.i) = omega arith in (
+      search rules,
+      search rules,
+      search rules,
+      rw (
+        e,
+        add-one,
+        kept w32 _ c.synthesised.type_inv,
+        c.synthesised.ensures,
+        kept w32 (get_or c.loop-i.buf (16 + c.loop-i.i) (pos 0)) c.synthesised-arg-1.given,
+        kept w32 _ c.prediction.type_inv,
+        c.prediction.ensures,
+      )
+          (synthesis-turn a.buf.now a.a.now a.d c.loop-i.i c.loop-i.buf (omega arith) c.loop-i.invariant.3),
+    )
+
+pub returns : goal.returns
+returns c =
+    let l = c.loop-i in
+    let b = c.args.buf.now in
+    rw (l.invariant.3, le_antisymm l.invariant.0 c.loop-i-test.false) (filled _ b (16 + (length b - 16)) (omega arith))

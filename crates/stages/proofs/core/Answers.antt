@@ -1,0 +1,73 @@
+use Prim.Native.Nat.{◌≤◌}
+use mathlib.Core.Path.{sym, ◌∙◌}
+use native.Mathlib.Omega.{arith}
+use lib.ListN.{length}
+use Rattle.decode_core.specs.Answer.{core_answer, core_output}
+use Rattle.layout.specs.Layout.{WORDS, HALVES, state_in}
+use Rattle.layout.specs.Frame.{FRAME, COEFS, params_in, control_in, rows_in}
+use Rattle.layout.proofs.Slices.{call_long}
+use Rattle.slices.proofs.Ends.{again, control_ended}
+use Rattle.stages.specs.Stages.{core_on}
+use Rattle.stages.proofs.core.Goals.{Start}
+use Rattle.stages.proofs.core.Goals as goal
+
+-- the lengths of the slices
+long : (c : Start) → let a = c.args in (WORDS ≤ length a.words.now) × (HALVES ≤ length a.halves.now) × (FRAME ≤ length a.frame.now) × (COEFS ≤ length a.coefs.now)
+long c =
+    let a = c.args in
+    call_long (length a.words.now) (length a.halves.now) (length a.frame.now) (length a.coefs.now) c.requires
+
+pub state_in-s-requires : goal.state_in-s-requires
+state_in-s-requires c = let l = long c.before.before in (l.0, l.1)
+
+pub params_in-q-requires : goal.params_in-q-requires
+params_in-q-requires c = (long c.before.before.before.before).2
+
+pub control_in-c-requires : goal.control_in-c-requires
+control_in-c-requires c = let l = long c.before.before.before.before.before.before.before in (l.2, omega (arith, l.3))
+
+pub rows_in-rows-requires : goal.rows_in-rows-requires
+rows_in-rows-requires c = (long c.before.before.before.before.before.before.before.before.before).3
+
+pub keep_state-requires : goal.keep_state-requires
+keep_state-requires c = let l = long c.before.before.before.before.before.before.before.before.before.before.before.before.before.before.before.before.before in (l.0, l.1)
+
+pub keep_lags-requires : goal.keep_lags-requires
+keep_lags-requires c = (long c.before.before.before.before.before.before.before.before.before.before.before.before.before.before.before.before.before.before.before.before.before).2
+
+pub keep_taps-requires : goal.keep_taps-requires
+keep_taps-requires c = (long c.before.before.before.before.before.before.before.before.before.before.before.before.before.before.before.before.before.before.before.before.before.before.before.before).3
+
+pub shape_of-words : goal.shape_of-words
+shape_of-words c = c.keep_state.auto.1.1.0
+
+pub shape_of-halves : goal.shape_of-halves
+shape_of-halves c = c.keep_state.auto.1.1.1.0
+
+pub shape_of-frame : goal.shape_of-frame
+shape_of-frame c = c.keep_lags.auto.1.1.0
+
+pub shape_of-coefs : goal.shape_of-coefs
+shape_of-coefs c = c.keep_taps.auto.1.1.0
+
+pub shape_of-output : goal.shape_of-output
+shape_of-output c = c.silk_decode_core-a.auto.1.1.1.1.1.0
+
+pub returns : goal.returns
+unfolding core_on core_answer core_output
+returns c =
+    let a = c.args in
+    let x = c.state_in-s.ensures in
+    let q = c.params_in-q.ensures in
+    let y = c.control_in-c.ensures in
+    let z = c.rows_in-rows.ensures in
+    let e = c.silk_decode_core-a.ensures in
+    let d = core_answer (state_in a.words.now a.halves.now) (params_in a.frame.now) (control_in a.frame.now a.coefs.now) (rows_in a.coefs.now) a.pulses.now a.output.now in
+    let r = e.0 ∙ λ i. core_answer (x i) (q i) (y i) (z i) a.pulses.now a.output.now in
+    let after =
+    control_ended _ _ _ _ _ _ _ _ (λ i. (r i).refusal) (λ i. (r i).state) (λ i. (r i).control)
+    c.keep_state.ensures
+    c.keep_lags.ensures
+    c.keep_taps.ensures
+    (e.1 ∙ (λ i. core_output (x i) (q i) (y i) (z i) a.pulses.now a.output.now) ∙ again d.refusal _ _) in
+    λ i. record { refusal = (r i).refusal; after = after i }

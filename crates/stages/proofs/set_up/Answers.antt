@@ -1,0 +1,39 @@
+use Prim.Native.Nat.{◌≤◌}
+use mathlib.Core.Path.{sym, ◌∙◌}
+use lib.ListN.{length}
+use mir.Facts.{to_z-of_z}
+use Rattle.decoder.specs.SetUp.{set_up_with}
+use Rattle.layout.specs.Layout.{WORDS, HALVES}
+use Rattle.layout.proofs.Slices.{state_long}
+use Rattle.slices.proofs.Ends.{same, state_ended}
+use Rattle.stages.specs.Stages.{set_up_on}
+use Rattle.stages.proofs.set_up.Goals.{Start}
+use Rattle.stages.proofs.set_up.Goals as goal
+
+-- the lengths of the slices
+long : (c : Start) → let a = c.args in (WORDS ≤ length a.words.now) × (HALVES ≤ length a.halves.now)
+long c =
+    let a = c.args in
+    state_long (length a.words.now) (length a.halves.now) c.requires
+
+pub keep_state-requires : goal.keep_state-requires
+keep_state-requires c = let l = long c.before.before.before.before in (l.0, l.1)
+
+pub shape_of-words : goal.shape_of-words
+shape_of-words c = c.keep_state.auto.1.1.0
+
+pub shape_of-halves : goal.shape_of-halves
+shape_of-halves c = c.keep_state.auto.1.1.1.0
+
+pub returns : goal.returns
+unfolding set_up_on
+returns c =
+    let a = c.args in
+    let f = c.ranges in
+    let d = set_up_with a.rate a.subframes a.settings in
+    let r = c.set_up_with-a.ensures ∙ λ i. set_up_with (to_z-of_z f.rate i) (to_z-of_z f.subframes i) a.settings in
+    let after =
+    state_ended _ _ _ _ _ _ (λ i. (r i).refusal) (λ i. (r i).state)
+    c.keep_state.ensures
+    (same d.refusal _) in
+    λ i. record { refusal = (r i).refusal; after = after i }

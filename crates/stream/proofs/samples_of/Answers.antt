@@ -1,0 +1,29 @@
+use Prim.Native.Nat.{◌*◌, ◌≤◌}
+use mathlib.Core.Path.{◌∙◌}
+use native.Mathlib.Nat.{mul-le-mul}
+use native.Mathlib.Omega.{arith}
+use mir.Syntax.{w32}
+use Rattle.word.proofs.Words.{kept}
+use Rattle.shape.specs.Shape.{shape, frame_length}
+use Rattle.shape.proofs.Shapes.{frame_le}
+use Rattle.stream.specs.Header.{samples_of}
+use borrow.Author.Rules.{rules}
+use Rattle.stream.proofs.samples_of.Goals as goal
+
+pub overflow_mul-result : goal.overflow_mul-result
+overflow_mul-result c =
+    let n : c.frame_length-n.result ≤ 320 = rw c.frame_length-n.ensures (frame_le _ _) in
+    let u : c.u32_at.result ≤ 4294967295 = omega arith in
+    let p = mul-le-mul u n in
+    omega (arith, p)
+
+pub returns : goal.returns
+unfolding samples_of
+returns c =
+    let n : c.frame_length-n.result ≤ 320 = rw c.frame_length-n.ensures (frame_le _ _) in
+    let u : c.u32_at.result ≤ 4294967295 = omega arith in
+    let p = mul-le-mul u n in
+    let y = kept w32 c.signed_byte-2.result c.signed_byte-2.type_inv ∙ c.signed_byte-2.ensures in
+    let x = kept w32 c.signed_byte.result c.signed_byte.type_inv ∙ c.signed_byte.ensures in
+    let e = c.frame_length-n.ensures ∙ λ i. frame_length (shape (x i) (y i)) in
+    (λ i. c.u32_at.ensures i * e i, omega (arith, p))
