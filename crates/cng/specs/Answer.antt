@@ -1,7 +1,7 @@
 -- silk_cng as a public call on the first `n` samples of a buffer.
 use Rattle.std.specs.Prelude.{ℕ, List, ℤ, length}
 use Rattle.refusal.specs.First.{first_of}
-use Rattle.refusal.specs.Refusals.{ifAccepted}
+use Rattle.refusal.specs.Refusals.{if_accepted}
 use Rattle.refusal.specs.declared.Refusal.{Refusal}
 use Rattle.decoder.specs.State.{shape_of}
 use Rattle.decoder.specs.Outcome.{Framed}
@@ -24,4 +24,4 @@ module _ (s : SilkDecoderState) (c : SilkDecoderControl) (buffer : List ℤ) (n 
 
   -- the samples with noise and the rest of what was lent, or all of it
   unfoldable pub cng_output : List ℤ
-  cng_output = ifAccepted cng_refusal cng_outcome.frame buffer
+  cng_output = if_accepted cng_refusal cng_outcome.frame buffer

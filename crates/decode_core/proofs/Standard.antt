@@ -4,7 +4,7 @@ use mathlib.Core.List.{List}
 use lib.IntN.{ℤ}
 use lib.ListN.{length}
 use lib.Seq.{take_at}
-use Rattle.refusal.specs.Refusals.{refusal_number, ifAccepted}
+use Rattle.refusal.specs.Refusals.{refusal_number, if_accepted}
 use Rattle.refusal.specs.declared.Refusal.{Refusal}
 use Rattle.shape.specs.Shape.{Shape, frame_length}
 use Rattle.decoder.specs.Signals.{is_voiced}
@@ -36,4 +36,4 @@ unfolding core_answer core_refusal
 core_standard s q c rows pulses output e =
     let f = core-fits s q c (length pulses) (length output) (ap refusal_number e) in
     let new = (decode_core (shape_of s) s q c rows pulses).state in
-    subst (HoldsStandard (shape_of s) q pulses) (sym (ap (λ (r : Refusal). ifAccepted r new s) e)) (holds_standard (shape_of s) s q c rows pulses f.params.offset)
+    subst (HoldsStandard (shape_of s) q pulses) (sym (ap (λ (r : Refusal). if_accepted r new s) e)) (holds_standard (shape_of s) s q c rows pulses f.params.offset)

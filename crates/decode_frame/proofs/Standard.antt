@@ -3,7 +3,7 @@ use mathlib.Core.Path.{◌≡◌, sym, ap, subst}
 use mathlib.Core.List.{List}
 use lib.IntN.{ℤ}
 use lib.ListN.{length}
-use Rattle.refusal.specs.Refusals.{refusal_number, ifAccepted}
+use Rattle.refusal.specs.Refusals.{refusal_number, if_accepted}
 use Rattle.refusal.specs.declared.Refusal.{Refusal}
 use Rattle.shape.specs.Shape.{Shape, shape}
 use Rattle.decoder.specs.Reshape.{reshaped}
@@ -35,4 +35,4 @@ frame_standard s khz nb q c rows lines pulses output e =
     let p = shape khz nb in
     let f = received-fits khz nb s q c lines (length pulses) (length output) (ap refusal_number e) in
     let new = (whole_frame p t (Received q) c rows lines pulses).state in
-    subst (HoldsStandard p q pulses) (sym (ap (λ (r : Refusal). ifAccepted r new s) e)) (received_standard p t q c rows lines pulses f.core.params.offset)
+    subst (HoldsStandard p q pulses) (sym (ap (λ (r : Refusal). if_accepted r new s) e)) (received_standard p t q c rows lines pulses f.core.params.offset)

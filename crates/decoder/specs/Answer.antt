@@ -1,6 +1,6 @@
 -- What a call answers and leaves: refused, what was lent.
 use Rattle.std.specs.Prelude.{ℕ, List, ◌++◌, ℤ, drop}
-use Rattle.refusal.specs.Refusals.{ifAccepted}
+use Rattle.refusal.specs.Refusals.{if_accepted}
 use Rattle.refusal.specs.declared.Refusal.{Refusal}
 use Rattle.decoder.specs.Outcome.{Outcome, Framed}
 use Rattle.decoder.specs.declared.Answer.{Answer}
@@ -11,12 +11,12 @@ use Rattle.decoder.specs.declared.SilkDecoderControl.{SilkDecoderControl}
 module _ (r : Refusal) where
   -- of a call that gives a new state
   abbrev pub state_answer : SilkDecoderState → SilkDecoderState → StateAnswer
-  state_answer new lent = record { refusal = r; state = ifAccepted r new lent }
+  state_answer new lent = record { refusal = r; state = if_accepted r new lent }
 
   -- of a call that gives a new state and a new description
   abbrev pub answer : Outcome → SilkDecoderState → SilkDecoderControl → Answer
-  answer o s c = record { refusal = r; state = ifAccepted r o.state s; control = ifAccepted r o.control c }
+  answer o s c = record { refusal = r; state = if_accepted r o.state s; control = if_accepted r o.control c }
 
   -- n samples in front of the rest of the buffer that was lent
   abbrev pub output : ℕ → List ℤ → List ℤ → List ℤ
-  output n samples lent = ifAccepted r (samples ++ drop n lent) lent
+  output n samples lent = if_accepted r (samples ++ drop n lent) lent

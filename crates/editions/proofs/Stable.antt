@@ -16,7 +16,7 @@ use Rattle.edition.specs.Edition.{older, newer}
 use Rattle.edition.proofs.Editions.{one_of_two}
 use Rattle.macros.specs.Fixed.{smmul, smulww, smulwb, smlaww, lshift_sat32, round_shift, rshift_round, rshift_round64, clz32}
 use Rattle.macros.specs.Quotient.{headroom, shift_up, shift_down, normal, first_inverse, second_inverse, inverse32_varq}
-use Rattle.refusal.specs.Refusals.{refusal_number, ifAccepted}
+use Rattle.refusal.specs.Refusals.{refusal_number, if_accepted}
 use Rattle.refusal.specs.declared.Refusal.{Refusal}
 use Rattle.stability.specs.Stability.{a_limit, reflection, rc_mult1, rc_mult2, next_gain, bit_length, mul_q, step_down, stepped, next_coefficients, fits32, all_fit, goes_on, step, and_then, steps, total, stability_by, stability, inverse_gain, answer_number}
 use Rattle.stability.specs.declared.Stability.{Stability}
@@ -98,6 +98,6 @@ pub stable_filter : StableFilter
 unfolding nlsf2a_of nlsf2a
 stable_filter out lines d e r =
     let h = accepted (length out) lines d e (ap refusal_number r) in
-    ap (λ (r : Refusal). answer_number (stability e (take d (ifAccepted r (nlsf2a e lines d ++ drop d out) out)))) r
+    ap (λ (r : Refusal). answer_number (stability e (take d (if_accepted r (nlsf2a e lines d ++ drop d out) out)))) r
     ∙ ap (λ (a : List ℤ). answer_number (stability e a)) (take_at (nlsf2a e lines d) (drop d out) d (length-nlsf2a e lines d))
     ∙ gained _ (rounds-pass e d (one_of_two e h.4) h.0 15 0 (lpc_fit 10 (lpc_coefficients lines d)) refl (fit_length lines d))

@@ -5,7 +5,7 @@ use mathlib.Core.List.{◌++◌}
 use lib.IntN.{ℤ, pos}
 use lib.ListN.{drop}
 use Rattle.edition.specs.Edition.{is_edition}
-use Rattle.refusal.specs.Refusals.{ifAccepted}
+use Rattle.refusal.specs.Refusals.{if_accepted}
 use Rattle.shape.specs.Shape.{frame_length}
 use Rattle.decoder.specs.Ranges.{within}
 use Rattle.decoder.specs.Settings.{is_squelch, settings_fit, squelched}
@@ -58,4 +58,4 @@ lost_as_before s x f e = lost-by s x false f e
 
 pub plays_zeros : PlaysZeros
 unfolding frame_output muted
-plays_zeros s x f e r i = ifAccepted (r i) ((lost-by s x true f e i).samples ++ drop (frame_length (shape_at x)) x.output) x.output
+plays_zeros s x f e r i = if_accepted (r i) ((lost-by s x true f e i).samples ++ drop (frame_length (shape_at x)) x.output) x.output

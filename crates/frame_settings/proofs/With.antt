@@ -7,7 +7,7 @@ use lib.Dec.{eqb}
 use lib.IntN.{ℤ, pos}
 use lib.ListN.{length, get_or, drop}
 use Rattle.word.specs.Int.{eq_ℤ}
-use Rattle.refusal.specs.Refusals.{refusal_number, ifAccepted}
+use Rattle.refusal.specs.Refusals.{refusal_number, if_accepted}
 use Rattle.refusal.specs.declared.Refusal.{Refusal}
 use Rattle.refusal.specs.First.{Row, ◌gives◌, first_of}
 use Rattle.refusal.specs.declared.Refusal.TheVariants.{Rate, Size, History, Line}
@@ -140,17 +140,17 @@ module _ (s : SilkDecoderState) (x : Call) (r : Refusal) (v : Settings) (e : fra
   either-state true = refl
   either-state false = refl
 
-  pub state_left : (frame_answer (with_settings s v) x).state ≡ with_settings (ifAccepted r new.state s) v
+  pub state_left : (frame_answer (with_settings s v) x).state ≡ with_settings (if_accepted r new.state s) v
   unfolding frame_answer reshaped reshaped_by
   state_left =
-      (λ i. ifAccepted (e i) (state-with p t x.control x.rows x.lines x.pulses v x.frame k i) (with_settings s v))
+      (λ i. if_accepted (e i) (state-with p t x.control x.rows x.lines x.pulses v x.frame k i) (with_settings s v))
       ∙ either-state (eqb (refusal_number r) 0)
 
-  pub control_left : (frame_answer (with_settings s v) x).control ≡ ifAccepted r new.control x.control
+  pub control_left : (frame_answer (with_settings s v) x).control ≡ if_accepted r new.control x.control
   unfolding frame_answer reshaped reshaped_by
-  control_left i = ifAccepted (e i) (control-with p t x.control x.rows x.lines x.pulses v x.frame k i) x.control
+  control_left i = if_accepted (e i) (control-with p t x.control x.rows x.lines x.pulses v x.frame k i) x.control
 
-  pub output-left : (x.frame ≡ Lost → squelched (with_settings s v) ≡ false) → frame_output (with_settings s v) x ≡ ifAccepted r (plain p t x.control x.rows x.lines x.pulses x.frame ++ drop (frame_length p) x.output) x.output
+  pub output-left : (x.frame ≡ Lost → squelched (with_settings s v) ≡ false) → frame_output (with_settings s v) x ≡ if_accepted r (plain p t x.control x.rows x.lines x.pulses x.frame ++ drop (frame_length p) x.output) x.output
   unfolding frame_output squelched reshaped reshaped_by
   output-left l i =
-      ifAccepted (e i) (samples-with p t x.control x.rows x.lines x.pulses v x.frame k l i ++ drop (frame_length p) x.output) x.output
+      if_accepted (e i) (samples-with p t x.control x.rows x.lines x.pulses v x.frame k l i ++ drop (frame_length p) x.output) x.output

@@ -3,7 +3,7 @@
 ghost use Rattle.std.specs.Prelude.{◌≡◌, ◌≤◌, length};
 ghost use Rattle.std.specs.Int.{w8};
 ghost use Rattle.word.specs.Int.{wrap};
-ghost use Rattle.refusal.specs.Refusals.{ifAccepted};
+ghost use Rattle.refusal.specs.Refusals.{if_accepted};
 ghost use Rattle.layout.specs.Frame.{FRAME, COEFS, short_frame, short_call, small, params_in, frame_in, rate_in, subframes_in, control_in, tapless, rows_in, lines_in, with_lags, with_taps};
 
 use crate::{part16_16, part16_20, part32_4, short_state};
@@ -134,7 +134,7 @@ pub fn lines_in(coefs: &[i16]) -> [i16; 16]
 // The lags of a new description stored, if nothing is refused.
 pub fn keep_lags(refusal: Refusal, c: SilkDecoderControl, frame: &mut [i32])
     requires { FRAME ≤ length frame.old }
-    ensures { frame.new ≡ ifAccepted refusal (with_lags frame.old c) frame.old }
+    ensures { frame.new ≡ if_accepted refusal (with_lags frame.old c) frame.old }
 {
     if number(refusal) != 0 {
         return;
@@ -146,7 +146,7 @@ pub fn keep_lags(refusal: Refusal, c: SilkDecoderControl, frame: &mut [i32])
 // Its taps, likewise.
 pub fn keep_taps(refusal: Refusal, c: SilkDecoderControl, coefs: &mut [i16])
     requires { COEFS ≤ length coefs.old }
-    ensures { coefs.new ≡ ifAccepted refusal (with_taps coefs.old c) coefs.old }
+    ensures { coefs.new ≡ if_accepted refusal (with_taps coefs.old c) coefs.old }
 {
     if number(refusal) != 0 {
         return;

@@ -5,7 +5,7 @@
 pub mod frame;
 
 ghost use Rattle.std.specs.Prelude.{◌≡◌, ◌+◌, ◌≤◌, pos, length, replicate};
-ghost use Rattle.refusal.specs.Refusals.{ifAccepted};
+ghost use Rattle.refusal.specs.Refusals.{if_accepted};
 ghost use Rattle.layout.specs.Layout.{part, WORDS, HALVES, short_state, cng_in, plc_in, settings_in, state_in, numbers, last_numbers, with_words, with_halves, StateStored};
 ghost use Rattle.layout.specs.Frame.{FrameStored};
 
@@ -291,8 +291,8 @@ fn put_halves(s: SilkDecoderState, halves: &mut [i16])
 // A state stored, if nothing is refused.
 pub fn keep_state(refusal: Refusal, s: SilkDecoderState, words: &mut [i32], halves: &mut [i16])
     requires { (WORDS ≤ length words.old) × (HALVES ≤ length halves.old) }
-    ensures { (words.new ≡ ifAccepted refusal (with_words words.old s) words.old)
-        × (halves.new ≡ ifAccepted refusal (with_halves halves.old s) halves.old) }
+    ensures { (words.new ≡ if_accepted refusal (with_words words.old s) words.old)
+        × (halves.new ≡ if_accepted refusal (with_halves halves.old s) halves.old) }
 {
     if number(refusal) != 0 {
         return;

@@ -4,7 +4,7 @@ use Rattle.word.specs.Int.{eq_ℤ}
 use Rattle.stability.specs.Stability.{stability, inverse_gain}
 use Rattle.edition.specs.Edition.{is_edition}
 use Rattle.refusal.specs.First.{◌gives◌, first_of}
-use Rattle.refusal.specs.Refusals.{ifAccepted}
+use Rattle.refusal.specs.Refusals.{if_accepted}
 use Rattle.refusal.specs.declared.Refusal.{Refusal}
 use Rattle.refusal.specs.declared.Refusal.TheVariants.{Line, Order, Edition}
 use Rattle.nlsf.specs.Lines.{negative_line, lpc_coefficients}
@@ -40,4 +40,4 @@ nlsf2a_refusal n lines d e =
 
 -- what it leaves in that slice: the coefficients and the rest as it was, all as it was if it refuses
 unfoldable pub nlsf2a_of : List ℤ → List ℤ → ℕ → ℤ → List ℤ
-nlsf2a_of out lines d e = ifAccepted (nlsf2a_refusal (length out) lines d e) (nlsf2a e lines d ++ drop d out) out
+nlsf2a_of out lines d e = if_accepted (nlsf2a_refusal (length out) lines d e) (nlsf2a e lines d ++ drop d out) out

@@ -2,7 +2,7 @@
 use Rattle.std.specs.Prelude.{ℕ, ◌+◌, ◌-◌, ◌*◌, List, [], ◌∷◌, ◌++◌, map, ltb, ℤ, pos, length, take, drop, replicate}
 use Rattle.edition.specs.Edition.{newer}
 use Rattle.refusal.specs.First.{◌gives◌, first_or}
-use Rattle.refusal.specs.Refusals.{ifAccepted}
+use Rattle.refusal.specs.Refusals.{if_accepted}
 use Rattle.refusal.specs.declared.Refusal.{Refusal}
 use Rattle.refusal.specs.declared.Refusal.TheVariants.{Record}
 use Rattle.shape.specs.Shape.{frame_length}
@@ -82,9 +82,9 @@ play_of b lent =
     record {
       answer = record {
         refusal = r;
-        received = ifAccepted r (received_in xs) 0;
-        concealed = ifAccepted r (length xs - received_in xs) 0;
-        samples = ifAccepted r n 0;
+        received = if_accepted r (received_in xs) 0;
+        concealed = if_accepted r (length xs - received_in xs) 0;
+        samples = if_accepted r n 0;
       };
-      output = ifAccepted r (played_samples b ++ drop n lent) lent;
+      output = if_accepted r (played_samples b ++ drop n lent) lent;
     }

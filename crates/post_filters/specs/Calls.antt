@@ -1,6 +1,6 @@
 -- What each exported function answers and leaves in the slice that it writes, from what it was lent.
 use Rattle.std.specs.Prelude.{ℕ, Bool, cond, List, [], ◌∷◌, ◌++◌, ltb, ℤ, pos, negsuc, length, drop}
-use Rattle.refusal.specs.Refusals.{refusal_number, ifAccepted}
+use Rattle.refusal.specs.Refusals.{refusal_number, if_accepted}
 use Rattle.refusal.specs.declared.Refusal.{Refusal}
 use Rattle.stability.specs.Stability.{answer_number, answer_value, tested_under}
 use Rattle.nlsf.specs.Filter.{nlsf2a_refusal, nlsf2a_of}
@@ -17,7 +17,7 @@ pub record Called (A : Type 0) : Type 0 where
 unfoldable pub called : {A : Type 0} → Bool → Refusal → List A → List A → Called A
 called short r front lent =
     cond short (record { answer = negsuc 0; slice = lent })
-    (record { answer = pos (refusal_number r); slice = ifAccepted r (front ++ drop (length front) lent) lent })
+    (record { answer = pos (refusal_number r); slice = if_accepted r (front ++ drop (length front) lent) lent })
 
 -- the number and the value of the test's answer under an edition
 unfoldable pub stability_call : List ℤ → ℕ → ℤ → List ℤ → Called ℤ

@@ -4,7 +4,7 @@ use Rattle.word.specs.Int.{eq_ℤ}
 use Rattle.le.specs.Bytes.{bytes_of, with_bytes}
 use Rattle.refusal.specs.First.{Row, ◌gives◌, first_or, first_of}
 use Rattle.refusal.specs.Letters.{letters}
-use Rattle.refusal.specs.Refusals.{ifAccepted}
+use Rattle.refusal.specs.Refusals.{if_accepted}
 use Rattle.refusal.specs.declared.Refusal.{Refusal}
 use Rattle.refusal.specs.declared.Refusal.TheVariants.{Nothing, Rate, Size, Record}
 use Rattle.shape.specs.Shape.{shape, is_rate, is_count}
@@ -42,7 +42,7 @@ pub record Left : Type 0 where
   pub bytes : List ℕ
 
 abbrev pub left : Refusal → List ℕ → List ℕ → Left
-left r new old = record { refusal = r; bytes = ifAccepted r new old }
+left r new old = record { refusal = r; bytes = if_accepted r new old }
 
 -- a recording of no frames: 21 for too few bytes, then 1 and 2
 unfoldable pub begin_refusal : ℤ → ℤ → List ℕ → Refusal

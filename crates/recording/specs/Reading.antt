@@ -1,7 +1,7 @@
 -- Document 02, Note 9: why a recording is refused, and what is read of it.
 use Rattle.std.specs.Prelude.{ℕ, not, ◌&&◌, List, [], ◌∷◌, pos, length, replicate}
 use Rattle.refusal.specs.First.{◌gives◌, first_or}
-use Rattle.refusal.specs.Refusals.{ifAccepted}
+use Rattle.refusal.specs.Refusals.{if_accepted}
 use Rattle.refusal.specs.declared.Refusal.{Refusal}
 use Rattle.refusal.specs.declared.Refusal.TheVariants.{Rate, Size, Chain, Record}
 use Rattle.shape.specs.Shape.{shape, is_rate, is_count}
@@ -28,8 +28,8 @@ read_of b =
     let ks = on_chain (chain_of b) in
     record {
       refusal = r;
-      rate = ifAccepted r (rate_in b) (pos 0);
-      subframes = ifAccepted r (count_in b) (pos 0);
-      frames = ifAccepted r (length ks) 0;
-      records = ifAccepted r (padded ks) (replicate 60 0);
+      rate = if_accepted r (rate_in b) (pos 0);
+      subframes = if_accepted r (count_in b) (pos 0);
+      frames = if_accepted r (length ks) 0;
+      records = if_accepted r (padded ks) (replicate 60 0);
     }

@@ -1,6 +1,6 @@
 -- Document 01: "The first that applies, by number, is returned".
 use Rattle.std.specs.Prelude.{Bool, cond, List, [], ◌∷◌, leb}
-use Rattle.refusal.specs.Refusals.{refusal_number, ifAccepted}
+use Rattle.refusal.specs.Refusals.{refusal_number, if_accepted}
 use Rattle.refusal.specs.declared.Refusal.{Refusal}
 use Rattle.refusal.specs.declared.Refusal.TheVariants.{Nothing}
 
@@ -23,4 +23,4 @@ first_of rows = first_or rows Nothing
 
 -- of two refusals the one with the smaller number, and the other where one is none
 unfoldable pub earlier : Refusal → Refusal → Refusal
-earlier r t = ifAccepted r t (ifAccepted t r (cond (leb (refusal_number r) (refusal_number t)) r t))
+earlier r t = if_accepted r t (if_accepted t r (cond (leb (refusal_number r) (refusal_number t)) r t))

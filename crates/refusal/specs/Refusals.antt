@@ -61,8 +61,8 @@ refusal_word Edition = "edition"
 refusal_word Limit = "limit"
 
 -- the first of two values if nothing is refused, else the second
-abbrev pub ifAccepted {ℓ} : {A : Type ℓ} → Refusal → A → A → A
-ifAccepted r new old = cond (eqb (refusal_number r) 0) new old
+abbrev pub if_accepted {ℓ} : {A : Type ℓ} → Refusal → A → A → A
+if_accepted r new old = cond (eqb (refusal_number r) 0) new old
 
 -- a text as the code has it: its letters, zeros up to eight places, and how many letters it has
 abbrev pub text_of : String → Text

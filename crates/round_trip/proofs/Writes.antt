@@ -15,7 +15,7 @@ use native.Mathlib.Nat.{mod-eq_of_lt}
 use Rattle.le.specs.Bytes.{bytes_of, with_bytes, same}
 use Rattle.refusal.specs.First.{Row, ◌gives◌, first_or, first_of, earlier}
 use Rattle.refusal.specs.Letters.{letters}
-use Rattle.refusal.specs.Refusals.{refusal_number, ifAccepted}
+use Rattle.refusal.specs.Refusals.{refusal_number, if_accepted}
 use Rattle.refusal.specs.declared.Refusal.{Refusal}
 use Rattle.refusal.specs.declared.Refusal.TheVariants.{Nothing, Rate, Size, Record}
 use Rattle.refusal.proofs.Clear.{clear, passed}

@@ -1,7 +1,7 @@
 -- Document 02, Note 9: what is written in order is read, and what is read in order is written.
 use Rattle.std.specs.Prelude.{ℕ, zero, suc, ◌-◌, ◌*◌, ◌≤◌, ◌≡◌, true, List, [], ◌∷◌, ◌++◌, map, ℤ, length, take, drop}
 use Rattle.le.specs.Bytes.{Bytes}
-use Rattle.refusal.specs.Refusals.{refusal_number, ifAccepted}
+use Rattle.refusal.specs.Refusals.{refusal_number, if_accepted}
 use Rattle.refusal.specs.declared.Refusal.TheVariants.{Nothing}
 use Rattle.shape.specs.Shape.{shape, is_rate, is_count}
 use Rattle.record.specs.Recorded.{Recorded}
@@ -16,13 +16,13 @@ unfoldable pub appends_of : ℤ → ℤ → List ℕ → ℕ → List Recorded �
 appends_of khz nb b n [] = record { refusal = Nothing; bytes = b }
 appends_of khz nb b n (x ∷ xs) =
     let t = append_of khz nb b n x in
-    ifAccepted t.refusal (appends_of khz nb t.bytes (suc n) xs) t
+    if_accepted t.refusal (appends_of khz nb t.bytes (suc n) xs) t
 
 -- a recording written into lent bytes
 unfoldable pub write_of : ℤ → ℤ → List ℕ → List Recorded → Left
 write_of khz nb b xs =
     let t = begin_of khz nb b in
-    ifAccepted t.refusal (appends_of khz nb t.bytes 0 xs) t
+    if_accepted t.refusal (appends_of khz nb t.bytes 0 xs) t
 
 -- the bytes of n frames and record 0
 abbrev pub size : List Recorded → ℕ

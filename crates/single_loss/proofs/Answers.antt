@@ -8,7 +8,7 @@ use borrow.Author.Tests.{eq-eqb, ne_eqb}
 use lib.Dec.{eqb}
 use lib.IntN.{ℤ, pos}
 use lib.ListN.{length, length-map, take}
-use Rattle.refusal.specs.Refusals.{refusal_number, ifAccepted}
+use Rattle.refusal.specs.Refusals.{refusal_number, if_accepted}
 use Rattle.refusal.specs.declared.Refusal.TheVariants.{Nothing, Limit}
 use Rattle.decoder.specs.Ranges.{within}
 use Rattle.chain.specs.Chain.{is_whole, chain_of, on_chain, padded}
@@ -32,7 +32,7 @@ module _ (b : List ℕ) where
   not_read l e =
       let n = ne_eqb (refusal_number (read_refusal b)) 0 e in
       sym
-      (ap (λ (t : Bool). let r = cond t (cond (not (within (pos 1) (pos 32767) l) || passes l (rate_in b) (count_in b) (start_of b) (frames_in b)) Limit Nothing) (read_refusal b) in ifAccepted r (Found (first_from (culprit_at b l) 0 (length (frames_in b)))) (Refused r)) n
+      (ap (λ (t : Bool). let r = cond t (cond (not (within (pos 1) (pos 32767) l) || passes l (rate_in b) (count_in b) (start_of b) (frames_in b)) Limit Nothing) (read_refusal b) in if_accepted r (Found (first_from (culprit_at b l) 0 (length (frames_in b)))) (Refused r)) n
       ∙ ap (λ (t : Bool). cond t (Found (first_from (culprit_at b l) 0 (length (frames_in b)))) (Refused (read_refusal b))) n)
 
   -- a recording that is read
@@ -82,11 +82,11 @@ module _ (b : List ℕ) where
 
     -- 23, or what the search finds
     past-reading : (l : ℤ) (t : Bool) → (not (within (pos 1) (pos 32767) l) || passes l (rate_in b) (count_in b) (start_of b) (frames_in b)) ≡ t
-        → loss_answer b l ≡ (let r = cond t Limit Nothing in ifAccepted r (Found (first_from (culprit_at b l) 0 (length (frames_in b)))) (Refused r))
+        → loss_answer b l ≡ (let r = cond t Limit Nothing in if_accepted r (Found (first_from (culprit_at b l) 0 (length (frames_in b)))) (Refused r))
     unfolding loss_answer loss_refusal
     past-reading l t q =
-        ap (λ (u : Bool). let r = cond u (cond (not (within (pos 1) (pos 32767) l) || passes l (rate_in b) (count_in b) (start_of b) (frames_in b)) Limit Nothing) (read_refusal b) in ifAccepted r (Found (first_from (culprit_at b l) 0 (length (frames_in b)))) (Refused r)) taken
-        ∙ ap (λ (u : Bool). let r = cond u Limit Nothing in ifAccepted r (Found (first_from (culprit_at b l) 0 (length (frames_in b)))) (Refused r)) q
+        ap (λ (u : Bool). let r = cond u (cond (not (within (pos 1) (pos 32767) l) || passes l (rate_in b) (count_in b) (start_of b) (frames_in b)) Limit Nothing) (read_refusal b) in if_accepted r (Found (first_from (culprit_at b l) 0 (length (frames_in b)))) (Refused r)) taken
+        ∙ ap (λ (u : Bool). let r = cond u Limit Nothing in if_accepted r (Found (first_from (culprit_at b l) 0 (length (frames_in b)))) (Refused r)) q
 
     pub out_of_range : (l : ℤ) → within (pos 1) (pos 32767) l ≡ false → Refused Limit ≡ loss_answer b l
     out_of_range l w =

@@ -1,6 +1,6 @@
 -- Document 02, Note 14: the answer for a recording and a limit.
 use Rattle.std.specs.Prelude.{ℕ, Bool, cond, not, ◌||◌, List, ℤ, pos, length}
-use Rattle.refusal.specs.Refusals.{ifAccepted}
+use Rattle.refusal.specs.Refusals.{if_accepted}
 use Rattle.refusal.specs.declared.Refusal.{Refusal}
 use Rattle.refusal.specs.declared.Refusal.TheVariants.{Nothing, Limit}
 use Rattle.decoder.specs.Ranges.{within}
@@ -16,7 +16,7 @@ module _ (b : List ℕ) where
   -- what reading refuses, and last 23: L is not 1 to 32,767, or the call as recorded already passes it
   unfoldable pub loss_refusal : ℤ → Refusal
   loss_refusal limit =
-      ifAccepted (read_refusal b)
+      if_accepted (read_refusal b)
       (cond (not (within (pos 1) (pos 32767) limit) || passes limit (rate_in b) (count_in b) (start_of b) (frames_in b)) Limit Nothing)
       (read_refusal b)
 
@@ -26,4 +26,4 @@ module _ (b : List ℕ) where
 
   unfoldable pub loss_answer : ℤ → Answer
   loss_answer limit =
-      ifAccepted (loss_refusal limit) (Found (first_from (culprit_at limit) 0 (length (frames_in b)))) (Refused (loss_refusal limit))
+      if_accepted (loss_refusal limit) (Found (first_from (culprit_at limit) 0 (length (frames_in b)))) (Refused (loss_refusal limit))

@@ -1,6 +1,6 @@
 -- The slices of a call on a state and a frame.
 use Rattle.std.specs.Prelude.{List, ℤ}
-use Rattle.refusal.specs.Refusals.{ifAccepted}
+use Rattle.refusal.specs.Refusals.{if_accepted}
 use Rattle.refusal.specs.declared.Refusal.{Refusal}
 use Rattle.decoder.specs.declared.SilkDecoderState.{SilkDecoderState}
 use Rattle.decoder.specs.declared.SilkDecoderControl.{SilkDecoderControl}
@@ -43,4 +43,4 @@ pub record Answered : Type 0 where
 
 -- a call that is refused leaves the slices as they were lent
 abbrev pub unless : Refusal → Slices → Slices → Answered
-unless r new lent = record { refusal = r; after = ifAccepted r new lent }
+unless r new lent = record { refusal = r; after = if_accepted r new lent }

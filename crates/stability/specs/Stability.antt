@@ -7,7 +7,7 @@ use Rattle.macros.specs.Fixed.{smmul, clz32, rshift_round64}
 use Rattle.macros.specs.Quotient.{inverse32_varq}
 use Rattle.edition.specs.Edition.{older, newer, is_edition}
 use Rattle.refusal.specs.First.{◌gives◌, first_of}
-use Rattle.refusal.specs.Refusals.{ifAccepted}
+use Rattle.refusal.specs.Refusals.{if_accepted}
 use Rattle.refusal.specs.declared.Refusal.{Refusal}
 use Rattle.refusal.specs.declared.Refusal.TheVariants.{Order, Edition}
 use Rattle.stability.specs.declared.Stability.{Stability}
@@ -142,7 +142,7 @@ test_refusal n d e = first_of ((order_refused n d gives Order) ∷ (not (is_edit
 unfoldable pub tested_under : List ℤ → ℕ → ℤ → Tested
 tested_under a d e =
     let refusal = test_refusal (length a) d e in
-    record { refusal = refusal; answer = ifAccepted refusal (stability e (take d a)) (Stable (pos 0)) }
+    record { refusal = refusal; answer = if_accepted refusal (stability e (take d a)) (Stable (pos 0)) }
 
 -- where no edition is named
 abbrev pub tested : List ℤ → ℕ → Tested

@@ -7,7 +7,7 @@ use native.Mathlib.Nat.{not-suc-le-zero}
 use native.Mathlib.Omega.{arith}
 use lib.IntN.{ℤ, pos, nat_abs}
 use lib.ListN.{length, get_or, replicate}
-use Rattle.refusal.specs.Refusals.{refusal_number, ifAccepted}
+use Rattle.refusal.specs.Refusals.{refusal_number, if_accepted}
 use Rattle.refusal.specs.declared.Refusal.{Refusal}
 use Rattle.refusal.specs.declared.Refusal.TheVariants.{Nothing}
 use Rattle.listener.specs.declared.Link.{Link}
@@ -48,8 +48,8 @@ pub adds_up : AddsUp
 unfolding trial_of reported
 adds_up khz nb seed q n k seeds i e l =
     let x = get_or seeds i (pos 0) in
-    let row : (h : Heard) → get_or (ifAccepted (trial_refusal khz nb q n) (map (heard_of khz nb seed q k n h) seeds) (replicate 16 0)) i 0 ≡ count_to h (nat_abs q) k x n =
-    λ h. ap (λ (r : Refusal). get_or (ifAccepted r (map (heard_of khz nb seed q k n h) seeds) (replicate 16 0)) i 0) e
+    let row : (h : Heard) → get_or (if_accepted (trial_refusal khz nb q n) (map (heard_of khz nb seed q k n h) seeds) (replicate 16 0)) i 0 ≡ count_to h (nat_abs q) k x n =
+    λ h. ap (λ (r : Refusal). get_or (if_accepted r (map (heard_of khz nb seed q k n h) seeds) (replicate 16 0)) i 0) e
     ∙ get_or-map (heard_of khz nb seed q k n h) seeds i l
     ∙ heard_by_link khz nb seed q n k x (ap refusal_number e) h in
     (λ j. row as_received j + row as_concealed j + row as_squelched j) ∙ sum_to (nat_abs q) k x n

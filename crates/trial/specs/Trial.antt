@@ -1,7 +1,7 @@
 -- Document 02, Note 13: the trial's answer.
 use Rattle.std.specs.Prelude.{ℕ, not, List, [], ◌∷◌, map, ltb, ℤ, replicate}
 use Rattle.refusal.specs.First.{◌gives◌, first_of}
-use Rattle.refusal.specs.Refusals.{ifAccepted}
+use Rattle.refusal.specs.Refusals.{if_accepted}
 use Rattle.refusal.specs.declared.Refusal.{Refusal}
 use Rattle.refusal.specs.declared.Refusal.TheVariants.{Rate, Size, Length, Squelch}
 use Rattle.shape.specs.Shape.{is_rate, is_count}
@@ -19,7 +19,7 @@ trial_refusal khz nb q n =
 -- a trial with a refusal and, for each listener, counts; refused, all are 0
 unfoldable pub reported : Refusal → (Heard → ℤ → ℕ) → List ℤ → Trial
 reported r count seeds =
-    let row : Heard → List ℕ = λ h. ifAccepted r (map (count h) seeds) (replicate 16 0) in
+    let row : Heard → List ℕ = λ h. if_accepted r (map (count h) seeds) (replicate 16 0) in
     record { refusal = r; received = row as_received; concealed = row as_concealed; squelched = row as_squelched }
 
 -- a load, a squelch, a count of frames, a link, and the listeners' seeds

@@ -3,7 +3,7 @@ use mathlib.Core.List.{[]}
 use mathlib.Core.Path.{sym, ◌∙◌}
 use lib.IntN.{pos}
 use lib.ListN.{length}
-use Rattle.refusal.specs.Refusals.{refusal_number, ifAccepted}
+use Rattle.refusal.specs.Refusals.{refusal_number, if_accepted}
 use Rattle.plc.specs.Answer.{plc_lost, plc_lost_output}
 use Rattle.layout.specs.Layout.{WORDS, HALVES, state_in, with_words, with_halves}
 use Rattle.layout.specs.Frame.{FRAME, tapless, with_lags}
@@ -58,9 +58,9 @@ returns c =
     let new = slices (with_words a.words.now d.state) (with_halves a.halves.now d.state) (with_lags a.frame.now d.control) [] [] (plc_lost_output (state_in a.words.now a.halves.now) (tapless a.frame.now) a.output.now) in
     let after =
     ended d.refusal new m
-    (g.0 ∙ λ i. ifAccepted (r i).refusal (with_words a.words.now (r i).state) a.words.now)
-    (g.1 ∙ λ i. ifAccepted (r i).refusal (with_halves a.halves.now (r i).state) a.halves.now)
-    (c.keep_lags.ensures ∙ λ i. ifAccepted (r i).refusal (with_lags a.frame.now (r i).control) a.frame.now)
+    (g.0 ∙ λ i. if_accepted (r i).refusal (with_words a.words.now (r i).state) a.words.now)
+    (g.1 ∙ λ i. if_accepted (r i).refusal (with_halves a.halves.now (r i).state) a.halves.now)
+    (c.keep_lags.ensures ∙ λ i. if_accepted (r i).refusal (with_lags a.frame.now (r i).control) a.frame.now)
     (same d.refusal _)
     (same d.refusal _)
     (e.1 ∙ (λ i. plc_lost_output (x i) (y i) a.output.now) ∙ again d.refusal _ _) in

@@ -11,7 +11,7 @@ use lib.Signed.{non_neg}
 use mir.Syntax.{w32}
 use mir.Val.{Fits}
 use mir.Facts.{to_z-of_z}
-use Rattle.refusal.specs.Refusals.{refusal_number, ifAccepted}
+use Rattle.refusal.specs.Refusals.{refusal_number, if_accepted}
 use Rattle.listener.specs.declared.Rows.{Rows}
 use Rattle.listener.specs.Heard.{Heard, as_received, as_concealed, as_squelched, count_to, rows_of}
 use Rattle.trial.specs.Calls.{heard_of}
@@ -53,7 +53,7 @@ unfolding trial_of reported
 returns-then-number-ne0 c =
     let a = c.args in
     let no = ne_eqb (refusal_number (trial_refusal a.rate a.subframes a.squelch a.frames)) 0 (λ e. c.if-number-ne0.true (number c.before.before ∙ e)) in
-    let row : (h : Heard) → c.no_counts-none.result ≡ ifAccepted (trial_refusal a.rate a.subframes a.squelch a.frames) (map (heard_of a.rate a.subframes a.seed a.squelch a.link a.frames h) a.seeds) (replicate 16 0) =
+    let row : (h : Heard) → c.no_counts-none.result ≡ if_accepted (trial_refusal a.rate a.subframes a.squelch a.frames) (map (heard_of a.rate a.subframes a.seed a.squelch a.link a.frames h) a.seeds) (replicate 16 0) =
     λ h. c.no_counts-none.ensures ∙ ap (λ (b : Bool). cond b (map (heard_of a.rate a.subframes a.seed a.squelch a.link a.frames h) a.seeds) (replicate 16 0)) (sym no) in
     let w = why c.before.before.before in
     let x = row as_received in
@@ -71,7 +71,7 @@ returns c =
     let a = c.args in
     let e = c.sixteen-heard.ensures ∙ ap (λ (z : ℤ). rows_of (nat_abs z) a.link a.frames a.seeds) (to_z-of_z c.ranges.squelch) in
     let yes = eq-eqb (refusal_number (trial_refusal a.rate a.subframes a.squelch a.frames)) 0 (taken c.before.before.before.before) in
-    let row : (h : Heard) → map (λ x. count_to h (nat_abs a.squelch) a.link x a.frames) a.seeds ≡ ifAccepted (trial_refusal a.rate a.subframes a.squelch a.frames) (map (heard_of a.rate a.subframes a.seed a.squelch a.link a.frames h) a.seeds) (replicate 16 0) =
+    let row : (h : Heard) → map (λ x. count_to h (nat_abs a.squelch) a.link x a.frames) a.seeds ≡ if_accepted (trial_refusal a.rate a.subframes a.squelch a.frames) (map (heard_of a.rate a.subframes a.seed a.squelch a.link a.frames h) a.seeds) (replicate 16 0) =
     λ h. map_cong _ _ a.seeds (λ x. sym (heard_by_link a.rate a.subframes a.seed a.squelch a.frames a.link x (taken c.before.before.before.before) h))
     ∙ ap (λ (b : Bool). cond b (map (heard_of a.rate a.subframes a.seed a.squelch a.link a.frames h) a.seeds) (replicate 16 0)) (sym yes) in
     let w = why c.before.before.before.before.before.before in
