@@ -54,6 +54,7 @@ length-packed w xs (suc n) =
 -- the bytes of number i
 part_of_packed : (w : Width) (xs : List ℤ) (n i : ℕ) (q : List ℕ) → i < n → take (bytes_in w) (drop (bytes_in w * i) (packed w xs n ++ q)) ≡ bytes_of (bytes_in w) (get_or xs i (pos 0))
 unfolding packed
+part_of_packed w xs zero i q h = elim h [ ]
 part_of_packed w xs (suc n) i q h = go (part_of_packed w xs n i (bytes_of (bytes_in w) (get_or xs n (pos 0)) ++ q)) (ltb i n) refl
   where
     go : (i < n → take (bytes_in w) (drop (bytes_in w * i) (packed w xs n ++ (bytes_of (bytes_in w) (get_or xs n (pos 0)) ++ q))) ≡ bytes_of (bytes_in w) (get_or xs i (pos 0)))
