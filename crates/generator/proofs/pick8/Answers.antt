@@ -1,5 +1,5 @@
 use mathlib.Core.Path.{◌≡◌}
-use mir.Syntax.{w8}
+use mir.Syntax.{w8, w32}
 use mir.Val.{SFits}
 use mir.Facts.{to_z-of_z, sfits_widen}
 use Rattle.word.proofs.Words.{back, back_fits}
@@ -21,7 +21,7 @@ pub pick32-requires : goal.pick32-requires
 pick32-requires c = rw (to_z-of_z c.ranges.low) (sfits_widen tt c.requires.1)
 
 pub overflow_cast-result : goal.overflow_cast-result
-overflow_cast-result c = back_fits (sfits_widen tt (fit c)) (fit c) (value c)
+overflow_cast-result c = back_fits {w = w32} (sfits_widen tt (fit c)) (fit c) (value c)
 
 pub returns : goal.returns
-returns c = back (fit c) (back (sfits_widen tt (fit c)) (value c))
+returns c = back (fit c) (back {w = w32} (sfits_widen tt (fit c)) (value c))

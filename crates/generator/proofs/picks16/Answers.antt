@@ -40,7 +40,7 @@ loop-i-init c =
     )
 
 pub overflow_cast-to : goal.overflow_cast-to
-overflow_cast-to c = back_fits (sfits_widen tt (fit c)) (fit c) (value c)
+overflow_cast-to c = back_fits {w = w64} (sfits_widen tt (fit c)) (fit c) (value c)
 
 pub loop-i-preserved : goal.loop-i-preserved
 loop-i-preserved c =
