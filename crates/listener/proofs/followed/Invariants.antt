@@ -18,10 +18,10 @@ use Rattle.listener.proofs.followed.Given as goal
 
 abbrev pub invariant-loop-i : goal.invariant-loop-i
 invariant-loop-i l =
-    (l.i ≤ l.frames) × (to_z w32 l.x ≡ drawn (to_z w32 l.seed) l.i) × (l.good ≡ good_at l.k (to_z w32 l.seed) l.i) × (l.losses ≡ losses_at l.k (to_z w32 l.seed) l.i)
-    × (l.received ≡ count_to as_received l.squelch l.k (to_z w32 l.seed) l.i)
-    × (l.concealed ≡ count_to as_concealed l.squelch l.k (to_z w32 l.seed) l.i)
-    × (l.squelched ≡ count_to as_squelched l.squelch l.k (to_z w32 l.seed) l.i)
+    (l.i ≤ l.frames) × (l.x ≡ drawn l.seed l.i) × (l.good ≡ good_at l.k l.seed l.i) × (l.losses ≡ losses_at l.k l.seed l.i)
+    × (l.received ≡ count_to as_received l.squelch l.k l.seed l.i)
+    × (l.concealed ≡ count_to as_concealed l.squelch l.k l.seed l.i)
+    × (l.squelched ≡ count_to as_squelched l.squelch l.k l.seed l.i)
 
 abbrev pub decreases-loop-i : goal.decreases-loop-i
 decreases-loop-i l =

@@ -16,7 +16,7 @@ use Rattle.listener.proofs.sixteen.Goals.{Start}
 use Rattle.listener.proofs.sixteen.Goals as goal
 
 -- the seeds are sixteen
-seeds_16 : (c : Start) → length c.args.t1 ≡ 16
+seeds_16 : (c : Start) → length c.args.seeds ≡ 16
 seeds_16 c = search rules
 
 pub loop-i-init : goal.loop-i-init
@@ -36,13 +36,13 @@ loop-i-preserved c =
     let a = c.args in
     let i = c.loop-i.i in
     let h : i < 16 = c.loop-i-test.true in
-    let n : i < length a.t1 = omega (arith, h, seeds_16 c.before.before.before.before.before.before.before) in
-    let x = get_or a.t1 i (pos 0) in
+    let n : i < length a.seeds = omega (arith, h, seeds_16 c.before.before.before.before.before.before.before) in
+    let x = get_or a.seeds i (pos 0) in
     let e = c.followed-c.ensures ∙ ap (λ (y : ℤ). counts_of a.squelch a.k y a.frames) (kept w32 x c.followed-arg-1.given) in
-    let row : (g : Heard) (old : List ℕ) (v : ℕ) → old ≡ map (λ y. count_to g a.squelch a.k y a.frames) (take i a.t1) ++ drop i (replicate 16 0)
+    let row : (g : Heard) (old : List ℕ) (v : ℕ) → old ≡ map (λ y. count_to g a.squelch a.k y a.frames) (take i a.seeds) ++ drop i (replicate 16 0)
     → v ≡ count_to g a.squelch a.k x a.frames
-    → set old i v ≡ map (λ y. count_to g a.squelch a.k y a.frames) (take (suc i) a.t1) ++ drop (suc i) (replicate 16 0) =
-    λ g old v d w. turn (λ y. count_to g a.squelch a.k y a.frames) a.t1 (replicate 16 0) old i d v w n h in (
+    → set old i v ≡ map (λ y. count_to g a.squelch a.k y a.frames) (take (suc i) a.seeds) ++ drop (suc i) (replicate 16 0) =
+    λ g old v d w. turn (λ y. count_to g a.squelch a.k y a.frames) a.seeds (replicate 16 0) old i d v w n h in (
       search rules,
       search rules,
       search rules,
@@ -57,10 +57,10 @@ unfolding rows_of
 returns c =
     let a = c.args in
     let e = le_antisymm c.loop-i.invariant.0 c.loop-i-test.false in
-    let n : length a.t1 ≡ c.loop-i.i = seeds_16 c.before.before.before.before.before ∙ sym e in
-    let row : (g : Heard) (old : List ℕ) → old ≡ map (λ y. count_to g a.squelch a.k y a.frames) (take c.loop-i.i a.t1) ++ drop c.loop-i.i (replicate 16 0)
-    → old ≡ map (λ y. count_to g a.squelch a.k y a.frames) a.t1 =
-    λ g old d. filled (λ y. count_to g a.squelch a.k y a.frames) a.t1 (replicate 16 0) old c.loop-i.i d n (sym e) in
+    let n : length a.seeds ≡ c.loop-i.i = seeds_16 c.before.before.before.before.before ∙ sym e in
+    let row : (g : Heard) (old : List ℕ) → old ≡ map (λ y. count_to g a.squelch a.k y a.frames) (take c.loop-i.i a.seeds) ++ drop c.loop-i.i (replicate 16 0)
+    → old ≡ map (λ y. count_to g a.squelch a.k y a.frames) a.seeds =
+    λ g old d. filled (λ y. count_to g a.squelch a.k y a.frames) a.seeds (replicate 16 0) old c.loop-i.i d n (sym e) in
     let p = row as_received c.loop-i.received c.loop-i.invariant.4 in
     let q = row as_concealed c.loop-i.concealed c.loop-i.invariant.5 in
     let r = row as_squelched c.loop-i.squelched c.loop-i.invariant.6 in
