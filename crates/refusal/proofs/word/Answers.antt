@@ -15,7 +15,30 @@ abbrev texts : List Text
 texts = map (λ r. text_of (refusal_word r)) (Nothing ∷ Rate ∷ Size ∷ History ∷ RunFull ∷ Signal ∷ Gain ∷ Lag ∷ Taps ∷ Line ∷ Pulses ∷ Speaker ∷ Length ∷ Order ∷ Squelch ∷ Weights ∷ Channels ∷ Place ∷ Post ∷ Waiting ∷ Chain ∷ Record ∷ Edition ∷ Limit ∷ [])
 
 read : (r : Refusal) → ◌≡◌ {A = Text} (record { letters = get_or (map (λ t. t.letters) texts) (refusal_number r) []; len = get_or (map (λ t. t.len) texts) (refusal_number r) 0 }) (text_of (refusal_word r))
-read r = elim r [ Nothing ↦ refl | Rate ↦ refl | Size ↦ refl | History ↦ refl | RunFull ↦ refl | Signal ↦ refl | Gain ↦ refl | Lag ↦ refl | Taps ↦ refl | Line ↦ refl | Pulses ↦ refl | Speaker ↦ refl | Length ↦ refl | Order ↦ refl | Squelch ↦ refl | Weights ↦ refl | Channels ↦ refl | Place ↦ refl | Post ↦ refl | Waiting ↦ refl | Chain ↦ refl | Record ↦ refl | Edition ↦ refl | Limit ↦ refl ]
+read Nothing = refl
+read Rate = refl
+read Size = refl
+read History = refl
+read RunFull = refl
+read Signal = refl
+read Gain = refl
+read Lag = refl
+read Taps = refl
+read Line = refl
+read Pulses = refl
+read Speaker = refl
+read Length = refl
+read Order = refl
+read Squelch = refl
+read Weights = refl
+read Channels = refl
+read Place = refl
+read Post = refl
+read Waiting = refl
+read Chain = refl
+read Record = refl
+read Edition = refl
+read Limit = refl
 
 pub bounds-n-n : goal.bounds-n-n
 bounds-n-n c = rw c.number-n.ensures (known c.args.r)
