@@ -19,7 +19,7 @@ parts c =
     (ap (λ (f : ClzFrac). f.lz) e, ap (λ (f : ClzFrac). f.frac_q7) e)
 
 zeros : (c : After-struct_told-1) → to_z w32 (of_z w32 c.silk_clz_frac-f.result.lz) ≡ pos (clz32 c.args.x)
-zeros c = kept w32 _ c.struct_told-1.given.0.1 ∙ (parts c.before).0
+zeros c = kept w32 _ c.struct_told-1.given.0.1 ∙ (parts c.before.before).0
 
 pub returns-then-x-le0 : goal.returns-then-x-le0
 unfolding sqrt_approx
@@ -38,8 +38,8 @@ returns c =
       kept w32 c.silk_smulbb.result c.silk_smulbb.type_inv,
       c.silk_smulbb.ensures,
       kept w32 c.silk_clz_frac-f.result.frac_q7 c.struct_told-2-1.given.1.0.1,
-      (parts c.before.before.before.before.before).1,
+      (parts (goal.at.returns c).After-silk_clz_frac-f).1,
       kept w32 c.sqrt_start-y.result c.sqrt_start-y.type_inv,
       c.sqrt_start-y.ensures,
-      zeros c.before.before.before.before,
+      zeros (goal.at.returns c).After-struct_told-1,
     )
