@@ -1,4 +1,4 @@
-// The functions of a load that a Rust or C program links. A contract is one equation: the answer and the slices at exit are those of the call's definition.
+// The functions of a load, which crate `post_load_c` exports for a Rust or C program. A contract is one equation: the answer and the slices at exit are those of the call's definition.
 #![tactic(auto)]
 
 ghost use Rattle.std.specs.Prelude.{◌≡◌, ◌≤◌, length};
@@ -46,8 +46,7 @@ fn put_load(
     copy16_at(pulses, 0, &p);
 }
 
-#[unsafe(no_mangle)]
-pub extern "C" fn post_load_frame(
+pub fn post_load_frame(
     rate: i32,
     subframes: i32,
     seed: i32,
@@ -71,16 +70,14 @@ pub extern "C" fn post_load_frame(
 }
 
 // The generator after a number of draws, in one leap.
-#[unsafe(no_mangle)]
-pub extern "C" fn post_load_leap(seed: i32, draws: u64) -> i32
+pub fn post_load_leap(seed: i32, draws: u64) -> i32
     ensures { result ≡ drawn seed draws }
 {
     generator::drawn(seed, draws)
 }
 
 // How many draws undo these.
-#[unsafe(no_mangle)]
-pub extern "C" fn post_load_undoing(draws: u64) -> u64
+pub fn post_load_undoing(draws: u64) -> u64
     ensures { result ≡ undoing draws }
 {
     generator::undoing(draws)
