@@ -11,12 +11,12 @@ unfolding is_count
 returns-in-2 c =
     let z = c.args.nb_subfr in
     let f = c.ranges.nb_subfr in
-    elim c.in-2.keys1 [
+    elim c.in-2.in-2-own.keys1 [
       | inl e ↦ rw (key w32 z 2 (lit< tt) f e)
       | inr e ↦ rw (key w32 z 4 (lit< tt) f e)
     ]
 
 pub returns-in_default : goal.returns-in_default
 returns-in_default c =
-    let never = c.in-2.rest.1 in
+    let never = c.in_default.in_default-own.rest.1 in
     rw (no_count c.args.nb_subfr (λ e. never (inl e)) (λ e. never (inr e)))

@@ -11,7 +11,7 @@ unfolding is_rate
 returns-in-8 c =
     let z = c.args.khz in
     let f = c.ranges.khz in
-    elim c.in-8.keys1 [
+    elim c.in-8.in-8-own.keys1 [
       | inl e ↦ rw (key w32 z 8 (lit< tt) f e)
       | inr k ↦ elim k [
         | inl e ↦ rw (key w32 z 12 (lit< tt) f e)
@@ -21,5 +21,5 @@ returns-in-8 c =
 
 pub returns-in_default : goal.returns-in_default
 returns-in_default c =
-    let never = c.in-8.rest.1 in
+    let never = c.in_default.in_default-own.rest.1 in
     rw (no_rate c.args.khz (λ e. never (inl e)) (λ e. never (inr (inl e))) (λ e. never (inr (inr e))))

@@ -7,16 +7,16 @@ use Rattle.shape.proofs.Rate.lag_min.Goals as goal
 
 pub returns-in-8 : goal.returns-in-8
 unfolding is_rate rate_of
-returns-in-8 c = rw (key w32 c.args.khz 8 (lit< tt) c.ranges.khz c.in-8.keys1)
+returns-in-8 c = rw (key w32 c.args.khz 8 (lit< tt) c.ranges.khz c.in-8.in-8-own.keys1)
 
 pub returns-in-12 : goal.returns-in-12
 unfolding is_rate rate_of
-returns-in-12 c = rw (key w32 c.args.khz 12 (lit< tt) c.ranges.khz c.in-8.keys2)
+returns-in-12 c = rw (key w32 c.args.khz 12 (lit< tt) c.ranges.khz c.in-12.in-12-own.keys2)
 
 pub returns-in-16 : goal.returns-in-16
 unfolding is_rate rate_of
-returns-in-16 c = rw (key w32 c.args.khz 16 (lit< tt) c.ranges.khz c.in-8.keys3)
+returns-in-16 c = rw (key w32 c.args.khz 16 (lit< tt) c.ranges.khz c.in-16.in-16-own.keys3)
 
 pub returns-in_default : goal.returns-in_default
 unfolding rate_of
-returns-in_default c = rw (no_rate c.args.khz c.in-8.rest.0.0.1 c.in-8.rest.0.1 c.in-8.rest.1)
+returns-in_default c = rw (no_rate c.args.khz c.in_default.in_default-own.rest.0.0.1 c.in_default.in_default-own.rest.0.1 c.in_default.in_default-own.rest.1)
