@@ -18,7 +18,7 @@ loop-i-init c = (search rules, refl)
 
 pub loop-i-preserved : goal.loop-i-preserved
 unfolding all_within
-loop-i-preserved c = (search rules, rw (add-one, c.both-ok.ensures, c.within.ensures, kept w32 (get_or c.args.xs.now c.loop-i.i (pos 0)) c.Within-arg.given, c.loop-i.invariant.1))
+loop-i-preserved c = (search rules, rw (add-one, c.both-ok.ensures, c.within.ensures, kept w32 (get_or c.args.xs.now c.loop-i.i (pos 0)) c.within-arg-1.given, c.loop-i.invariant.1))
 
 pub returns : goal.returns
 returns c = rw (c.loop-i.invariant.1, to_z-of_z c.ranges.low, to_z-of_z c.ranges.high, le_antisymm c.loop-i.invariant.0 c.loop-i-test.false)

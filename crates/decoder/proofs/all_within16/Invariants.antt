@@ -13,7 +13,7 @@ use borrow.Author.Rules.{rules}
 use Rattle.decoder.proofs.all_within16.Given as goal
 
 abbrev pub invariant-loop-i : goal.invariant-loop-i
-invariant-loop-i l = (l.i ≤ l.n) × (l.ok ≡ all_within (to_z w32 l.low) (to_z w32 l.high) l.xs l.i)
+invariant-loop-i l = (l.i ≤ l.n) × (l.ok ≡ all_within (l.low) (l.high) l.xs l.i)
 
 abbrev pub decreases-loop-i : goal.decreases-loop-i
 decreases-loop-i l = l.n - l.i

@@ -16,9 +16,9 @@ at-start p = omega arith
 pub returns-then-n-output : goal.returns-then-n-output
 unfolding played_length
 returns-then-n-output c =
-    rw (sub-zero c.frame_length-n.result, at-start c.args.output.ptr.1, ← to_z-of_z c.ranges.fs_khz, ← to_z-of_z c.ranges.nb_subfr, ← c.frame_length-n.ensures, le-leb _ _ c.if-n-output.true) (refl, refl)
+    rw (sub-zero c.frame_length-n.result, at-start c.args.output.ref_ptr.1, ← to_z-of_z c.ranges.fs_khz, ← to_z-of_z c.ranges.nb_subfr, ← c.frame_length-n.ensures, le-leb _ _ c.if-n-output.true) (refl, refl)
 
 pub returns : goal.returns
 unfolding played_length
 returns c =
-    rw (at-start c.args.output.ptr.1, ← to_z-of_z c.ranges.fs_khz, ← to_z-of_z c.ranges.nb_subfr, ← c.frame_length-n.ensures, lt-leb _ _ c.if-n-output.false) (refl, refl)
+    rw (at-start c.args.output.ref_ptr.1, ← to_z-of_z c.ranges.fs_khz, ← to_z-of_z c.ranges.nb_subfr, ← c.frame_length-n.ensures, lt-leb _ _ c.if-n-output.false) (refl, refl)

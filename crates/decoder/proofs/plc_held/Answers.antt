@@ -12,7 +12,7 @@ use Rattle.decoder.proofs.plc_held.Goals as goal
 
 pub all_within-requires : goal.all_within-requires
 all_within-requires c =
-    le_of_eq (sym (sym (length-map c.args.h.prev_gain_q16 _) ∙ c.struct_told-1.given.1.1.1.1.1.1.1.1.1.0.1.0.1))
+    le_of_eq (sym c.struct_told-1.given.1.1.1.1.1.1.1.1.1.0.1.0.1)
 
 pub returns : goal.returns
 unfolding plc_held

@@ -6,16 +6,16 @@ use Rattle.decoder.proofs.signal_number.Goals as goal
 
 pub returns-in-NoVoiceActivity : goal.returns-in-NoVoiceActivity
 unfolding signal_number
-returns-in-NoVoiceActivity c = rw c.enum_told-1.given.1
+returns-in-NoVoiceActivity c = search rules
 
 pub returns-in-Unvoiced : goal.returns-in-Unvoiced
 unfolding signal_number
-returns-in-Unvoiced c = rw c.enum_told-in-Unvoiced-1.given.1
+returns-in-Unvoiced c = search rules
 
 pub returns-in-Voiced : goal.returns-in-Voiced
 unfolding signal_number
-returns-in-Voiced c = rw c.enum_told-in-Voiced-1.given.1
+returns-in-Voiced c = search rules
 
 pub returns-in-Other : goal.returns-in-Other
 unfolding signal_number
-returns-in-Other c = rw (c.s-1.given.1, kept w8 c.s-1.given.0.0 c.known_told-1.given.0.1)
+returns-in-Other c = rw (c.in-Other.is, kept w8 c.in-Other.n c.in-Other.known_told-1-own.given.0.1)
