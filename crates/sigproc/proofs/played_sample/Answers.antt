@@ -8,7 +8,7 @@ unfolding played_q10
 returns c =
     cc (
       to_z-of_z c.ranges.s,
-      to_z-of_z c.ranges.«gain-q10»,
+      to_z-of_z c.ranges.gain_q10,
       kept w32 c.silk_smulww.result c.silk_smulww.type_inv,
       kept w32 c.silk_rshift_round.result c.silk_rshift_round.type_inv,
       kept w16 c.sat16.result c.sat16.type_inv,

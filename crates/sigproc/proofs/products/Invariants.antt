@@ -4,7 +4,7 @@ use Rattle.sigproc.specs.Analysis.{products}
 use Rattle.sigproc.proofs.products.Given as goal
 
 abbrev pub invariant-loop-j : goal.invariant-loop-j
-invariant-loop-j l = (l.j ≤ l.d) × (to_z w32 l.sum ≡ products l.x l.b l.i l.j)
+invariant-loop-j l = (l.j ≤ l.d) × (l.sum ≡ products l.x l.b l.i l.j)
 
 abbrev pub decreases-loop-j : goal.decreases-loop-j
 decreases-loop-j l = l.d - l.j

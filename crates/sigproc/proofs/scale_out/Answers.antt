@@ -29,7 +29,7 @@ returns c =
       c.loop-i.invariant.3,
       le_antisymm c.loop-i.invariant.0 c.loop-i-test.false,
       g,
-      to_z-of_z c.ranges.«gain-q16»,
-      filled (tabulate (length s) (λ (k : ℕ). played_q10 (floor_div c.args.«gain-q16» (2 ^ 6)) (get_or s k (pos 0)))) c.args.xq.now (length s) (omega arith),
+      to_z-of_z c.ranges.gain_q16,
+      filled (tabulate (length s) (λ (k : ℕ). played_q10 (floor_div c.args.gain_q16 (2 ^ 6)) (get_or s k (pos 0)))) c.args.xq.now (length s) (omega arith),
     )
-    (map-table (played_q10 (floor_div c.args.«gain-q16» (2 ^ 6))) s)
+    (map-table (played_q10 (floor_div c.args.gain_q16 (2 ^ 6))) s)

@@ -21,10 +21,10 @@ loop-j-preserved c =
         kept w16 _ c.shrunk-arg-1.given,
         c.loop-j.invariant.1,
         c.loop-j.invariant.2,
-        expand_past (to_z w32 (of_z w32 a.«chirp-q16»)) a.ar.now c.loop-j.j c.loop-j.j (le_refl _),
+        expand_past (to_z w32 (of_z w32 a.chirp_q16)) a.ar.now c.loop-j.j c.loop-j.j (le_refl _),
       ),
     )
 
 pub returns : goal.returns
 returns c =
-    rw (c.loop-j.invariant.2, le_antisymm c.loop-j.invariant.0 c.loop-j-test.false, to_z-of_z c.ranges.«chirp-q16»)
+    rw (c.loop-j.invariant.2, le_antisymm c.loop-j.invariant.0 c.loop-j-test.false, to_z-of_z c.ranges.chirp_q16)

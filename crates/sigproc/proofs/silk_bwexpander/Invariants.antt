@@ -5,7 +5,7 @@ use Rattle.sigproc.proofs.Shrink.{expand_past}
 use Rattle.sigproc.proofs.silk_bwexpander.Given as goal
 
 abbrev pub invariant-loop-j : goal.invariant-loop-j
-invariant-loop-j l = (l.j ≤ l.d) × (to_z w32 l.f ≡ factor (to_z w32 l.chirp_q16) l.j) × (l.ar ≡ bwexpander (to_z w32 l.chirp_q16) l.initial.ar l.j)
+invariant-loop-j l = (l.j ≤ l.d) × (l.f ≡ factor l.chirp_q16 l.j) × (l.ar ≡ bwexpander l.chirp_q16 l.initial.ar l.j)
 
 abbrev pub decreases-loop-j : goal.decreases-loop-j
 decreases-loop-j l = l.d - l.j

@@ -3,7 +3,7 @@ use Rattle.sigproc.specs.Place.{put_at}
 use Rattle.sigproc.proofs.with_front.Goals.{After-new-1}
 use Rattle.sigproc.proofs.with_front.Goals as goal
 
-part : (c : After-new-1) → let a = c.args in length (take a.d a.t2) ≡ a.d
+part : (c : After-new-1) → let a = c.args in length (take a.d a.new) ≡ a.d
 part c = length-take-le _ _ (search rules)
 
 pub slice_bounds-copy16_at-end-2 : goal.slice_bounds-copy16_at-end-2
