@@ -2,7 +2,6 @@ use mir.Syntax.{w32}
 use mir.Facts.{to_z-of_z}
 use Rattle.word.proofs.Words.{kept}
 use Rattle.generator.proofs.Joining.{leap_drawn}
-use borrow.Author.Rules.{rules}
 use Rattle.generator.proofs.drawn.Goals as goal
 
 pub returns : goal.returns

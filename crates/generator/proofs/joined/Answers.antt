@@ -4,7 +4,6 @@ use Rattle.word.specs.Int.{wrap32}
 use Rattle.generator.specs.Leaps.{joined}
 use mir.Syntax.{w32}
 use Rattle.word.proofs.Words.{kept, wrap_add_l}
-use borrow.Author.Rules.{rules}
 use Rattle.generator.proofs.joined.Goals as goal
 
 pub returns : goal.returns

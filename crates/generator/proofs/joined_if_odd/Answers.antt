@@ -1,5 +1,4 @@
 use borrow.Author.Tests.{eq-eqb, ne_eqb}
-use borrow.Author.Rules.{rules}
 use Rattle.generator.proofs.joined_if_odd.Goals as goal
 
 pub returns-then-left-eq1 : goal.returns-then-left-eq1

@@ -3,7 +3,6 @@ use lib.IntN.{◌*ℤ◌}
 use mir.Syntax.{w32}
 use mir.Facts.{to_z-of_z}
 use Rattle.word.proofs.Words.{kept, wrap_add_l}
-use borrow.Author.Rules.{rules}
 use Rattle.generator.proofs.landed.Goals as goal
 
 pub returns : goal.returns

@@ -1,10 +1,6 @@
-use Prim.Native.Nat.{ℕ, ◌%◌}
-use mathlib.Core.Path.{◌≡◌, sym, ap, ◌∙◌, subst}
-use lib.Dec.{eqb}
-use native.Mathlib.Omega.{arith}
+use mathlib.Core.Path.{◌≡◌}
 use Rattle.generator.specs.Leaps.{joined, times, leap_of}
-use Rattle.generator.proofs.Joining.{Cut, cut-none, cut-one, cut_if, cut-joined, none_first, none_left, halved}
-use borrow.Author.Rules.{rules}
+use Rattle.generator.proofs.Joining.{Cut}
 use Rattle.generator.proofs.leap_of.Given as goal
 
 abbrev pub invariant-loop-left : goal.invariant-loop-left

@@ -1,7 +1,6 @@
 use Rattle.generator.specs.Leaps.{one_draw}
 use Rattle.generator.proofs.Joining.{leap_drawn, times-add, undone, undone-before, undone-at, whole-periods}
 use Rattle.generator.proofs.Scales.{drawn-add}
-use borrow.Author.Rules.{rules}
 use Rattle.generator.proofs.leaps.Goals as goal
 
 pub returns : goal.returns

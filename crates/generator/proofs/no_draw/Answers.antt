@@ -1,6 +1,5 @@
 use mathlib.Core.Path.{refl}
 use Rattle.generator.specs.Leaps.{no_draw}
-use borrow.Author.Rules.{rules}
 use Rattle.generator.proofs.no_draw.Goals as goal
 
 pub returns : goal.returns

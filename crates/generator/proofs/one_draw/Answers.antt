@@ -1,6 +1,5 @@
 use mathlib.Core.Path.{refl}
 use Rattle.generator.specs.Leaps.{one_draw}
-use borrow.Author.Rules.{rules}
 use Rattle.generator.proofs.one_draw.Goals as goal
 
 pub returns : goal.returns

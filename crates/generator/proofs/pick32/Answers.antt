@@ -5,7 +5,6 @@ use mir.Facts.{to_z-of_z, sfits_widen}
 use Rattle.word.proofs.Words.{kept, back, back_fits}
 use Rattle.generator.specs.Scaled.{pick}
 use Rattle.generator.proofs.Scales.{pick_of, pick-fits}
-use borrow.Author.Rules.{rules}
 use Rattle.generator.proofs.pick32.Goals.{After-scaled}
 use Rattle.generator.proofs.pick32.Goals as goal
 

@@ -5,7 +5,6 @@ use mir.Facts.{to_z-of_z, sfits_widen}
 use Rattle.word.proofs.Words.{back, back_fits}
 use Rattle.generator.specs.Scaled.{pick}
 use Rattle.generator.proofs.Scales.{pick-fits}
-use borrow.Author.Rules.{rules}
 use Rattle.generator.proofs.pick8.Goals.{After-pick32}
 use Rattle.generator.proofs.pick8.Goals as goal
 

@@ -1,17 +1,15 @@
-use Prim.Native.Nat.{◌+◌, ◌-◌, ◌≤◌}
+use Prim.Native.Nat.{◌+◌}
 use mathlib.Core.Path.{◌≡◌}
-use mathlib.Core.List.{◌++◌, append-nil}
+use mathlib.Core.List.{append-nil}
 use native.Mathlib.Nat.{le_antisymm}
 use native.Mathlib.Numerals.{add-one}
 use native.Mathlib.Omega.{arith}
-use lib.ListN.{length, drop}
 use lib.Seq.{drop-length}
 use mir.Syntax.{w16, w32, w64}
 use mir.Val.{SFits, to_z, of_z}
 use mir.Facts.{to_z-of_z, sfits_widen}
 use Rattle.word.proofs.Words.{kept, back, back_fits}
-use Rattle.generator.specs.Draws.{drawn}
-use Rattle.generator.specs.Scaled.{pick, picks}
+use Rattle.generator.specs.Scaled.{pick}
 use Rattle.generator.proofs.Scales.{pick_of, pick-fits, picks-none, picks_more, drawn-next}
 use borrow.Author.Rules.{rules}
 use Rattle.generator.proofs.picks16.Goals.{After-scaled}

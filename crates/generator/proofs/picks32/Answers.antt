@@ -6,7 +6,6 @@ use mir.Facts.{to_z-of_z}
 use Rattle.word.proofs.Words.{got}
 use Rattle.generator.specs.Scaled.{pick}
 use Rattle.generator.proofs.Scales.{picks_four}
-use borrow.Author.Rules.{rules}
 use Rattle.generator.proofs.picks32.Goals as goal
 
 pub pick32-requires : goal.pick32-requires

@@ -1,6 +1,5 @@
 use mathlib.Core.Path.{refl}
 use Rattle.generator.specs.Leaps.{undoing}
-use borrow.Author.Rules.{rules}
 use Rattle.generator.proofs.undoing.Goals as goal
 
 pub returns : goal.returns

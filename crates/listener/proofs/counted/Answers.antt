@@ -1,6 +1,5 @@
 use mathlib.Core.Path.{refl, sym}
 use native.Mathlib.Nat.{add-zero}
-use borrow.Author.Rules.{rules}
 use Rattle.listener.proofs.counted.Goals as goal
 
 pub returns-then-heard : goal.returns-then-heard

@@ -1,6 +1,5 @@
 use mathlib.Core.Path.{refl}
 use Rattle.listener.specs.Link.{leaving}
-use borrow.Author.Rules.{rules}
 use Rattle.listener.proofs.leaving.Goals as goal
 
 pub returns-then-good : goal.returns-then-good

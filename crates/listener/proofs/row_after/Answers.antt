@@ -1,5 +1,4 @@
 use native.Mathlib.Numerals.{add-one}
-use borrow.Author.Rules.{rules}
 use Rattle.listener.proofs.row_after.Goals as goal
 
 pub returns-else-good : goal.returns-else-good

@@ -1,14 +1,8 @@
-use Prim.Native.Nat.{◌-◌, ◌≤◌, ◌<◌}
-use mathlib.Core.Path.{◌≡◌, refl}
-use mathlib.Core.List.{◌++◌, append-nil}
-use native.Mathlib.Nat.{le_antisymm}
-use native.Mathlib.Numerals.{add-one}
+use Prim.Native.Nat.{◌-◌, ◌≤◌}
+use mathlib.Core.Path.{◌≡◌}
+use mathlib.Core.List.{◌++◌}
 use lib.IntN.{pos}
 use lib.ListN.{length, take, drop, replicate}
-use mir.Syntax.{w32}
-use Rattle.word.proofs.Words.{kept}
-use Rattle.listener.proofs.Filling.{copied_more}
-use borrow.Author.Rules.{rules}
 use Rattle.listener.proofs.seeds_of.Given as goal
 
 abbrev pub invariant-loop-i : goal.invariant-loop-i

@@ -2,7 +2,6 @@ use mathlib.Core.Path.{refl}
 use native.Mathlib.Numerals.{add-one}
 use borrow.Author.Tests.{lt-ltb, le-ltb}
 use Rattle.listener.specs.Heard.{silent}
-use borrow.Author.Rules.{rules}
 use Rattle.listener.proofs.silent.Goals as goal
 
 pub returns-then-squelch-gt0 : goal.returns-then-squelch-gt0

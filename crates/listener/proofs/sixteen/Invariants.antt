@@ -1,17 +1,8 @@
-use Prim.Native.Nat.{ℕ, suc, ◌-◌, ◌≤◌, ◌<◌}
-use mathlib.Core.Path.{◌≡◌, sym, ap, ◌∙◌}
-use mathlib.Core.List.{List, ◌++◌, map}
-use native.Mathlib.Nat.{le_antisymm}
-use native.Mathlib.Numerals.{add-one}
-use native.Mathlib.Omega.{arith}
-use lib.IntN.{ℤ, pos}
-use lib.ListN.{length, get_or, set, take, drop, replicate}
-use mir.Syntax.{w32}
-use Rattle.word.proofs.Words.{kept}
-use Rattle.listener.specs.declared.Counts.{Counts}
-use Rattle.listener.specs.Heard.{Heard, as_received, as_concealed, as_squelched, count_to, counts_of, rows_of}
-use Rattle.listener.proofs.Filling.{turn, filled}
-use borrow.Author.Rules.{rules}
+use Prim.Native.Nat.{◌-◌, ◌≤◌}
+use mathlib.Core.Path.{◌≡◌}
+use mathlib.Core.List.{◌++◌, map}
+use lib.ListN.{length, take, drop, replicate}
+use Rattle.listener.specs.Heard.{as_received, as_concealed, as_squelched, count_to}
 use Rattle.listener.proofs.sixteen.Given as goal
 
 abbrev pub invariant-loop-i : goal.invariant-loop-i

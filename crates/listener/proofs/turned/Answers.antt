@@ -6,7 +6,6 @@ use lib.Dec.{ltb}
 use mir.Facts.{to_z-of_z}
 use Rattle.generator.specs.Draws.{unsigned}
 use Rattle.listener.specs.Link.{leaving, turned}
-use borrow.Author.Rules.{rules}
 use Rattle.listener.proofs.turned.Goals.{After-leaving}
 use Rattle.listener.proofs.turned.Goals as goal
 
