@@ -73,5 +73,5 @@ returns c =
     let n = a.f.subfr_length * a.count in
     let e = take_at c.excite.new.0 (drop n a.exc.now) n (excited-length c.before.before.before.before.before.before.before.before.before) ∙ excited c.before.before.before.before.before.before.before.before.before in (
       ap (λ (y : List ℤ). y ++ drop n a.exc.now) (excited c.before.before.before.before.before.before.before.before.before),
-      subst (λ (y : List ℤ). Left (subframes a.f a.rows y (begin a.f a.b a.memory.now a.«out-buf».now) a.count) c.synthesise.result c.synthesise.new.1.1.1.1.1.0 c.synthesise.new.1.1.1.1.1.1.0 c.synthesise.new.1.1.1.1.1.1.1.0 (drop n a.xq.now)) e c.synthesise.ensures,
+      subst (λ (y : List ℤ). Left (subframes a.f a.rows y (begin a.f a.b a.memory.now a.out_buf.now) a.count) c.synthesise.result c.synthesise.new.1.1.1.1.1.0 c.synthesise.new.1.1.1.1.1.1.0 c.synthesise.new.1.1.1.1.1.1.1.0 (drop n a.xq.now)) e c.synthesise.ensures,
     )

@@ -20,7 +20,7 @@ buffer_at-requires c =
 pub rewhiten-requires : goal.rewhiten-requires
 rewhiten-requires c =
     let r = c.requires.0 in
-    let k = ap length c.buffer_at.ensures ∙ length-buffer_at _ c.args.k c.args.«out-buf».now c.args.played.now (λ e. omega (arith, two_follow r c.args.k (omega arith), c.requires.1, c.requires.2)) in
+    let k = ap length c.buffer_at.ensures ∙ length-buffer_at _ c.args.k c.args.out_buf.now c.args.played.now (λ e. omega (arith, two_follow r c.args.k (omega arith), c.requires.1, c.requires.2)) in
     let h : c.args.idx ≤ 480 = in_history r (sym c.rewhitens.ensures ∙ c.if-rewhitens.true) in
     (r.sized.order, omega (arith, c.lag_at-lag.ensures, r.lag.high, r.low), h, k ∙ c.requires.2, omega (arith, c.requires.3.count))
 

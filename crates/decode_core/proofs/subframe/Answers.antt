@@ -83,7 +83,7 @@ returns c =
     let h = rw q at c.long_term-idx.ensures in
     let adj = kept w32 c.gain_adjustment-adj.result c.gain_adjustment-adj.type_inv ∙ c.gain_adjustment-adj.ensures ∙ ap (λ (i : ℤ). gain_adjustment i (to_z w32 (of_z w32 z))) (kept w32 c.args.b.gain c.struct_told-1.given.1.0.1) in (
       rw (part-front at N xq out y c.requires.5)
-          (one_more f c.args.t3 c.args.exc.now k c.args.b after (get_or c.args.t3 (k / 2) []) (to_z w32 (of_z w32 c.gain_adjustment-adj.result)) c.args.past.now c.long_term-idx.new.1.1.1.1.1.1.1.0 c.args.signal.now s (put_mid 16 (length s - 16) s res) c.lpc_synthesis.new.0 c.args.«out-buf».now c.long_term-idx.new.1.1.1.1.1.1.0 (take at xq) res out
+          (one_more f c.args.t3 c.args.exc.now k c.args.b after (get_or c.args.t3 (k / 2) []) (to_z w32 (of_z w32 c.gain_adjustment-adj.result)) c.args.past.now c.long_term-idx.new.1.1.1.1.1.1.1.0 c.args.signal.now s (put_mid 16 (length s - 16) s res) c.lpc_synthesis.new.0 c.args.out_buf.now c.long_term-idx.new.1.1.1.1.1.1.0 (take at xq) res out
           c.control_at-c.ensures
           refl
           (kept w32 z c.gain-1.given)

@@ -12,14 +12,14 @@ pub loop-k-init : goal.loop-k-init
 loop-k-init c =
     let a = c.args in
     let n : length a.b.control.pitch_l ≡ 4 = search rules in
-    (search rules, refl, refl, refl, refl, begun a.f a.rows a.exc.now a.n a.b a.signal.now a.past.now a.«out-buf».now a.xq.now c.requires.4 c.requires.1 n)
+    (search rules, refl, refl, refl, refl, begun a.f a.rows a.exc.now a.n a.b a.signal.now a.past.now a.out_buf.now a.xq.now c.requires.4 c.requires.1 n)
 
 pub subframe-t-requires : goal.subframe-t-requires
 subframe-t-requires c =
     let l = c.loop-k in
     let a = c.args in
     let g = l.invariant.5 in (
-      playable a.f a.rows a.exc.now a.n a.b a.signal.now a.past.now a.«out-buf».now a.xq.now l.k l.t l.signal l.past l.«out-buf» l.xq c.requires.0 c.loop-k-test.true g,
+      playable a.f a.rows a.exc.now a.n a.b a.signal.now a.past.now a.out_buf.now a.xq.now l.k l.t l.signal l.past l.out_buf l.xq c.requires.0 c.loop-k-test.true g,
       room a.f l.k a.n (length a.exc.now) c.loop-k-test.true c.requires.2,
       l.invariant.1 ∙ c.requires.3,
       g.words,
@@ -37,7 +37,7 @@ loop-k-preserved c =
       m.auto.1.1.1.1.1.1.0 ∙ l.invariant.2,
       m.auto.1.1.1.1.1.1.1.0 ∙ l.invariant.3,
       m.auto.1.1.1.1.1.1.1.1.0 ∙ l.invariant.4,
-      rw add-one (went a.f a.rows a.exc.now a.n a.b a.signal.now a.past.now a.«out-buf».now a.xq.now l.k l.t m.result l.signal l.past l.«out-buf» l.xq m.new.1.1.1.1.1.0 m.new.1.1.1.1.1.1.0 m.new.1.1.1.1.1.1.1.0 m.new.1.1.1.1.1.1.1.1.0 l.invariant.5 m.ensures.0 m.ensures.1 m.ensures.2 m.ensures.3),
+      rw add-one (went a.f a.rows a.exc.now a.n a.b a.signal.now a.past.now a.out_buf.now a.xq.now l.k l.t m.result l.signal l.past l.out_buf l.xq m.new.1.1.1.1.1.0 m.new.1.1.1.1.1.1.0 m.new.1.1.1.1.1.1.1.0 m.new.1.1.1.1.1.1.1.1.0 l.invariant.5 m.ensures.0 m.ensures.1 m.ensures.2 m.ensures.3),
     )
 
 pub returns : goal.returns

@@ -55,7 +55,7 @@ returns c =
     let k = memory_front s c.quiet-signal.result c.args.memory.now l c.quiet-signal.ensures c.copy32_at.auto.0 h p u.auto.1.1.1.1.1.0 in
     let i = length-signal s c.quiet-signal.result c.args.memory.now l c.quiet-signal.ensures c.copy32_at.auto.0 h in
     let t : take 16 (p ++ drop (16 + l) s) ≡ take 16 p = take-append-le 16 p (drop (16 + l) s) (omega (arith, u.auto.1.1.1.1.1.0)) in
-    finished c.args.f c.args.rows c.args.exc.now c.args.n c.args.b u.result c.zeros-past.result (take (16 + l) s) p u.new.1.1.1.1.1.1.0 c.args.«out-buf».now u.new.1.1.1.1.1.1.1.0 c.args.xq.now u.new.1.1.1.1.1.1.1.1.0 c.args.memory.now _
+    finished c.args.f c.args.rows c.args.exc.now c.args.n c.args.b u.result c.zeros-past.result (take (16 + l) s) p u.new.1.1.1.1.1.1.0 c.args.out_buf.now u.new.1.1.1.1.1.1.1.0 c.args.xq.now u.new.1.1.1.1.1.1.1.1.0 c.args.memory.now _
     c.zeros-past.ensures
     c.requires.1
     (omega (arith, c.requires.0.sized.history))

@@ -18,7 +18,7 @@ use Rattle.decode_core.proofs.weigh.Given as goal
 abbrev pub invariant-loop-i : goal.invariant-loop-i
 invariant-loop-i l =
     (l.i ≤ l.i-end) × (l.i-end ≡ length l.residual) × (length l.past ≡ length l.initial.past)
-    × (l.past ≡ tabulate l.i (λ (k : ℕ). smulwb (to_z w32 l.inverse) (get_or l.residual k (pos 0))) ++ drop l.i l.initial.past)
+    × (l.past ≡ tabulate l.i (λ (k : ℕ). smulwb l.inverse (get_or l.residual k (pos 0))) ++ drop l.i l.initial.past)
 
 abbrev pub decreases-loop-i : goal.decreases-loop-i
 decreases-loop-i l = l.i-end - l.i

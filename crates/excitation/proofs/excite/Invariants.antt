@@ -18,8 +18,8 @@ use Rattle.excitation.proofs.excite.Given as goal
 
 abbrev pub invariant-loop-i : goal.invariant-loop-i
 invariant-loop-i l =
-    (l.i ≤ l.i-end) × (l.i-end ≡ length l.initial.exc) × (length l.exc ≡ length l.initial.exc) × (to_z w32 l.g ≡ generator_at l.pulses (to_z w32 l.seed) l.i)
-    × (l.exc ≡ excitation (to_z w32 l.offset) l.pulses (to_z w32 l.seed) l.i ++ drop l.i l.initial.exc)
+    (l.i ≤ l.i-end) × (l.i-end ≡ length l.initial.exc) × (length l.exc ≡ length l.initial.exc) × (l.g ≡ generator_at l.pulses l.seed l.i)
+    × (l.exc ≡ excitation l.offset l.pulses l.seed l.i ++ drop l.i l.initial.exc)
 
 abbrev pub decreases-loop-i : goal.decreases-loop-i
 decreases-loop-i l = l.i-end - l.i

@@ -21,7 +21,7 @@ use Rattle.glue.proofs.ramp.Given as goal
 abbrev pub invariant-loop-i : goal.invariant-loop-i
 invariant-loop-i l =
     (l.i ≤ l.i-end) × (l.i-end ≡ length l.initial.frame) × (length l.frame ≡ length l.initial.frame)
-    × (ramped (to_z w32 l.gain) (to_z w32 l.slope) l.initial.frame ≡ take l.i l.frame ++ ramped (to_z w32 l.g) (to_z w32 l.slope) (drop l.i l.frame))
+    × (ramped l.gain l.slope l.initial.frame ≡ take l.i l.frame ++ ramped l.g l.slope (drop l.i l.frame))
 
 abbrev pub decreases-loop-i : goal.decreases-loop-i
 decreases-loop-i l = l.i-end - l.i
