@@ -20,11 +20,11 @@ use Rattle.glue.proofs.ramp.Goals.{After-add32-g, After-scaled}
 use Rattle.glue.proofs.ramp.Goals as goal
 
 -- the sample of a turn
-sample : (c : After-scaled) → c.scaled.result ≡ wrap16 (smulwb (to_z w32 c.loop-i.g) (get_or c.loop-i.frame c.loop-i.i (pos 0)))
+sample : (c : After-scaled) → c.scaled.result ≡ wrap16 (smulwb (to_z w32 c.loop-i.g-bits) (get_or c.loop-i.frame c.loop-i.i (pos 0)))
 sample c =
     c.scaled.ensures ∙ rw (kept w16 (get_or c.loop-i.frame c.loop-i.i (pos 0)) c.scaled-arg-1.given)
 
-next : (c : After-add32-g) → to_z w32 (of_z w32 c.add32-g.result) ≡ wrap32 (to_z w32 c.loop-i.g +ℤ to_z w32 (of_z w32 c.args.slope))
+next : (c : After-add32-g) → to_z w32 (of_z w32 c.add32-g.result) ≡ wrap32 (to_z w32 c.loop-i.g-bits +ℤ to_z w32 (of_z w32 c.args.slope))
 next c = kept w32 _ c.add32-g.type_inv ∙ c.add32-g.ensures
 
 pub loop-i-init : goal.loop-i-init
@@ -33,7 +33,7 @@ loop-i-init c = (search rules, refl, refl, refl)
 pub returns-then-g-gt65536 : goal.returns-then-g-gt65536
 returns-then-g-gt65536 c =
     rw (kept w16 c.scaled.result c.scaled.type_inv, ← to_z-of_z c.ranges.gain, ← to_z-of_z c.ranges.slope)
-    (sym (off c.loop-i.frame c.loop-i.i (to_z w32 c.loop-i.g) (to_z w32 (of_z w32 c.args.slope)) c.scaled.result (omega arith) (sample c.before.before) (rw (next c.before) at c.if-g-gt65536.true)) ∙ sym c.loop-i.invariant.3)
+    (sym (off c.loop-i.frame c.loop-i.i (to_z w32 c.loop-i.g-bits) (to_z w32 (of_z w32 c.args.slope)) c.scaled.result (omega arith) (sample c.before.before) (rw (next c.before) at c.if-g-gt65536.true)) ∙ sym c.loop-i.invariant.3)
 
 pub loop-i-preserved : goal.loop-i-preserved
 loop-i-preserved c = (
@@ -42,7 +42,7 @@ loop-i-preserved c = (
   search rules,
   c.loop-i.invariant.3
       ∙ rw (add-one, kept w16 c.scaled.result c.scaled.type_inv, next c.before)
-      (on c.loop-i.frame c.loop-i.i (to_z w32 c.loop-i.g) (to_z w32 (of_z w32 c.args.slope)) c.scaled.result (omega arith) (sample c.before.before) (rw (next c.before) at c.if-g-gt65536.false)),
+      (on c.loop-i.frame c.loop-i.i (to_z w32 c.loop-i.g-bits) (to_z w32 (of_z w32 c.args.slope)) c.scaled.result (omega arith) (sample c.before.before) (rw (next c.before) at c.if-g-gt65536.false)),
 )
 
 pub returns : goal.returns
