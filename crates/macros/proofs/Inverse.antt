@@ -1,7 +1,7 @@
 -- The inverse of a gain, from the shift that it ends in alone.
-use Prim.Native.Nat.{ℕ, zero, suc, ◌+◌, ◌-◌, ◌*◌, ◌/◌, ◌%◌, ◌^◌, ◌<◌, ◌≤◌, zero-le}
+use Prim.Native.Nat.{ℕ, zero, suc, ◌+◌, ◌-◌, ◌*◌, ◌/◌, ◌%◌, ◌^◌, ◌<◌, ◌≤◌}
 use mathlib.Core.Path.{◌≡◌, refl, sym, ap, ◌∙◌, subst}
-use mathlib.Core.Bool.{Bool, true, false, cond}
+use mathlib.Core.Bool.{Bool, true, false}
 use native.Mathlib.Omega.{arith}
 use native.Mathlib.Nat.{le_refl, le_trans, le_of_lt, mod-eq_of_lt, mul-le-mul_left, mul-le-mul_right, mul_assoc}
 use borrow.Author.Tests.{lt-ltb, lt-leb, ne_eqb, ltb-true, ltb-false}
@@ -9,13 +9,13 @@ use lib.Dec.{ltb}
 use lib.Count.{count_leading_zeros, leading_top}
 use lib.Pow.{pow_mono, pow-add, shr_lt}
 use lib.IntN.{ℤ, pos, negsuc, nat_abs, ◌-ℤ◌, -ℤ_one}
-use lib.Signed.{mag, lt_z, le_z}
+use lib.Signed.{mag}
 use mir.Syntax.{w32}
 use mir.Val.{SFits}
 use Rattle.word.specs.Int.{mod_ℤ, floor_div, wrap32, min_ℤ}
 use Rattle.macros.specs.Fixed.{clz32}
 use Rattle.macros.specs.Quotient.{headroom, shift_down, normal, first_inverse, second_inverse, inverse32_varq}
-use Rattle.word.proofs.Parts.{P, N, sub_parts_ℤ, eq_parts}
+use Rattle.word.proofs.Parts.{sub_parts_ℤ, eq_parts}
 use Rattle.word.proofs.Words.{mod-wrap, wrap_id}
 use Rattle.word.proofs.Sizes.{abs-fits, abs_min}
 use Rattle.macros.proofs.Ranges.{second_inverse-fits}

@@ -1,14 +1,13 @@
 -- A number other than 0, shifted up by its headroom, has its highest bit at place 30.
 use Prim.Native.Nat.{ℕ, zero, suc, ◌+◌, ◌-◌, ◌*◌, ◌/◌, ◌%◌, ◌^◌, ◌<◌, ◌≤◌, zero-le}
 use mathlib.Core.Path.{◌≡◌, refl, sym, ap, ◌∙◌, subst}
-use mathlib.Core.Bool.{Bool, true, false}
 use native.Mathlib.Omega.{arith}
-use native.Mathlib.Nat.{le_trans, mod-eq_of_lt, mul-le-mul_right, div-le_self}
-use borrow.Author.Tests.{le-ltb, eq-eqb, ne_eqb}
+use native.Mathlib.Nat.{mod-eq_of_lt, mul-le-mul_right, div-le_self}
+use borrow.Author.Tests.{le-ltb}
 use lib.Count.{count_leading_zeros, leading_le, leading_top}
-use lib.Pow.{shl_lt, pow-add, pow_pos}
-use lib.IntN.{ℤ, pos, negsuc, nat_abs, neg_ℤ, pred_ℤ, ◌-ℤ◌, ◌*ℤ◌, -ℤ_one, pos-ne-negsuc}
-use lib.Signed.{mag, quot_z}
+use lib.Pow.{shl_lt, pow-add}
+use lib.IntN.{ℤ, pos, negsuc, nat_abs, neg_ℤ, pred_ℤ, -ℤ_one, pos-ne-negsuc}
+use lib.Signed.{quot_z}
 use mir.Syntax.{w32}
 use mir.Val.{SFits, of_z}
 use Rattle.word.specs.Int.{mod_ℤ, floor_div, wrap32}

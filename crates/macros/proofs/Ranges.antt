@@ -1,5 +1,5 @@
 -- Every function's result is in the range of its type.
-use Prim.Native.Nat.{ℕ, zero, suc, ◌+◌, ◌-◌, ◌^◌, ◌<◌, ◌≤◌}
+use Prim.Native.Nat.{zero, suc, ◌-◌, ◌^◌, ◌<◌}
 use mathlib.Core.Path.{◌≡◌, refl, subst}
 use mathlib.Core.Bool.{Bool, true, false, cond}
 use native.Mathlib.Omega.{arith}
@@ -9,7 +9,7 @@ use lib.IntN.{ℤ, pos, negsuc, nat_abs, neg_ℤ, ◌*ℤ◌}
 use lib.Signed.{lt_z, le_z}
 use mir.Syntax.{Width, w16, w32, w64}
 use mir.Val.{SFits}
-use Rattle.word.specs.Int.{floor_div, mod_ℤ, wrap64, eq_ℤ}
+use Rattle.word.specs.Int.{mod_ℤ, wrap64, eq_ℤ}
 use Rattle.word.proofs.Mod.{mod_ℤ_lt}
 use Rattle.word.proofs.Range.{mul-fits, floor_div-fits}
 use Rattle.word.proofs.Words.{wrap-fits}

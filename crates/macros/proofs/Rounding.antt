@@ -4,7 +4,7 @@ use mathlib.Core.Path.{◌≡◌, refl, sym, ap, ◌∙◌}
 use mathlib.Core.Bool.{Bool, true, false, cond}
 use native.Mathlib.Omega.{arith}
 use native.Mathlib.Nat.{le_trans, mul-le-mul_right, div-le_of_le-mul, div-div-eq-div-mul, add-div_right, div-eq-sub-div, div-eq_of_lt, pow-suc}
-use borrow.Author.Tests.{lt-ltb, le-ltb, ltb-true, ltb-false, leb-false, lt-leb}
+use borrow.Author.Tests.{lt-ltb, ltb-true, ltb-false, leb-false, lt-leb}
 use lib.Dec.{ltb, lit<}
 use lib.Pow.{pow_pos, pow_mono}
 use lib.IntN.{ℤ, pos, negsuc, nat_abs, sub_ℕ, ◌+ℤ◌, ◌-ℤ◌, ◌*ℤ◌, -ℤ_one}

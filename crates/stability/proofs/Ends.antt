@@ -1,7 +1,7 @@
 -- A list that is changed in place from both ends, a pair of places at each turn.
 use Prim.Native.Nat.{ℕ, zero, suc, ◌+◌, ◌-◌, ◌/◌, ◌<◌, ◌≤◌}
 use mathlib.Core.Path.{◌≡◌, refl, sym, ap, ◌∙◌}
-use mathlib.Core.Bool.{Bool, true, false, cond, ◌&&◌, ◌||◌, or_true}
+use mathlib.Core.Bool.{Bool, true, false, cond, ◌&&◌, ◌||◌, or-true}
 use mathlib.Core.List.{List}
 use native.Mathlib.Omega.{arith}
 use native.Mathlib.Nat.{not-suc-le-zero, le_of_suc-le-suc, le_antisymm}
@@ -56,7 +56,7 @@ module _ (g : ℕ → ℤ) (a₀ : List ℤ) (k : ℕ) where
       go : (x y : Bool) → eqb i (k - 1 - n) ≡ x → eqb i n ≡ y → get_or (set (set a n (g n)) (k - 1 - n) (g (k - 1 - n))) i (pos 0) ≡ cond (changed k (n + 1) i) (g i) (get_or a₀ i (pos 0))
       go true y e f =
           let m : k - 1 - n < length (set a n (g n)) = rw (length-set a n (g n)) (omega arith) in
-          rw (eqb-true i (k - 1 - n) e, get_or-set_same (set a n (g n)) (k - 1 - n) (g (k - 1 - n)) (pos 0) m, le-leb (k - (n + 1)) (k - 1 - n) (omega arith), or_true (ltb (k - 1 - n) (n + 1))) refl
+          rw (eqb-true i (k - 1 - n) e, get_or-set_same (set a n (g n)) (k - 1 - n) (g (k - 1 - n)) (pos 0) m, le-leb (k - (n + 1)) (k - 1 - n) (omega arith), or-true (ltb (k - 1 - n) (n + 1))) refl
       go false true e f =
           rw (get_or-set_other (set a n (g n)) (k - 1 - n) i (g (k - 1 - n)) (pos 0) (eqb-false i (k - 1 - n) e), eqb-true i n f, get_or-set_same a n (g n) (pos 0) (omega arith), lt-ltb n (n + 1) (omega arith)) refl
       go false false e f =

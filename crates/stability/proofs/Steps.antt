@@ -1,7 +1,7 @@
 -- The numbers of a step.
 use Prim.Native.Nat.{ℕ, zero, suc, ◌+◌, ◌-◌, ◌≤◌}
 use mathlib.Core.Path.{◌≡◌, refl, sym, ap, ◌∙◌}
-use mathlib.Core.Bool.{Bool, true, false, ◌&&◌, and_true, and_assoc}
+use mathlib.Core.Bool.{Bool, true, false, ◌&&◌, and-true, and_assoc}
 use mathlib.Core.List.{List, [], ◌∷◌, ◌++◌, map, map-append}
 use native.Mathlib.Omega.{arith}
 use borrow.Author.Tests.{lt-ltb, le-ltb, ltb-true, ltb-false}
@@ -52,7 +52,7 @@ map-tabulate g f (suc n) =
 
 all_fit_snoc : (xs : List ℤ) (x : ℤ) → all_fit (xs ++ x ∷ []) ≡ (all_fit xs && fits32 x)
 unfolding all_fit
-all_fit_snoc [] x = and_true (fits32 x)
+all_fit_snoc [] x = and-true (fits32 x)
 all_fit_snoc (y ∷ ys) x =
     ap (λ (b : Bool). fits32 y && b) (all_fit_snoc ys x) ∙ sym (and_assoc (fits32 y) (all_fit ys) (fits32 x))
 

@@ -1,7 +1,6 @@
 use Prim.Native.Nat.{ℕ, ◌*◌, ◌/◌, ◌%◌, ◌^◌}
 use mathlib.Core.Path.{ap, ◌∙◌}
 use native.Mathlib.Omega.{arith}
-use borrow.Author.Rules.{rules}
 use lib.Count.{count_leading_zeros, leading_le}
 use lib.IntN.{ℤ, pos}
 use lib.Pow.{shl_exact}

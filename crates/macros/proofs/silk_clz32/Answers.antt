@@ -1,5 +1,4 @@
 use native.Mathlib.Omega.{arith}
-use borrow.Author.Rules.{rules}
 use lib.Count.{count_leading_zeros, leading_le}
 use mir.Syntax.{w32}
 use mir.Facts.{to_z-of_z, to_z_pos}

@@ -1,7 +1,4 @@
-use Prim.Native.Nat.{ℕ, ◌^◌}
 use mathlib.Core.Path.{◌≡◌}
-use borrow.Author.Rules.{rules}
-use lib.IntN.{ℤ, pos}
 use mir.Syntax.{w32}
 use mir.Val.{to_z, of_z}
 use mir.Facts.{to_z-of_z}

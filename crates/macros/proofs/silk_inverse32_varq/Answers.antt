@@ -1,8 +1,5 @@
-use Prim.Native.Nat.{ℕ, ◌^◌}
 use mathlib.Core.Path.{◌≡◌, refl, ap}
-use borrow.Author.Rules.{rules}
 use lib.Dec.{lit<}
-use lib.IntN.{ℤ, pos}
 use mir.Syntax.{w32}
 use mir.Val.{to_z, of_z}
 use mir.Facts.{to_z-of_z}

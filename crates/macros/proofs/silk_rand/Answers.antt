@@ -1,4 +1,4 @@
-use lib.IntN.{pos, ◌+ℤ◌, ◌*ℤ◌}
+use lib.IntN.{pos, ◌*ℤ◌}
 use mir.Syntax.{w32}
 use mir.Facts.{to_z-of_z}
 use Rattle.word.proofs.Words.{kept, wrap_add_r}

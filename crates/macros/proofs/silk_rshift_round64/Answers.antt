@@ -1,13 +1,10 @@
-use Prim.Native.Nat.{◌^◌}
 use mathlib.Core.Path.{◌≡◌}
-use mathlib.Core.Bool.{Bool, true, false}
-use borrow.Author.Rules.{rules}
-use lib.IntN.{ℤ, pos, neg_ℤ, ◌+ℤ◌, ◌-ℤ◌}
+use mathlib.Core.Bool.{false}
+use lib.IntN.{pos, neg_ℤ, ◌+ℤ◌, ◌-ℤ◌}
 use lib.Signed.{le_z}
 use mir.Syntax.{w32, w64}
 use mir.Val.{to_z, of_z}
 use mir.Facts.{to_z-of_z}
-use Rattle.word.specs.Int.{mod_ℤ, floor_div}
 use Rattle.macros.specs.Fixed.{rshift_round64}
 use Rattle.word.proofs.Words.{kept, mod_wrap_64}
 use Rattle.word.proofs.Order.{le_read_l}

@@ -1,5 +1,5 @@
 use Prim.Native.Nat.{◌/◌, ◌%◌, ◌^◌}
-use mathlib.Core.Path.{◌≡◌, ap, ◌∙◌, sym}
+use mathlib.Core.Path.{◌≡◌, ◌∙◌, sym}
 use borrow.Author.Tests.{eq-eqb, ne_eqb}
 use lib.IntN.{nat_abs}
 use mir.Syntax.{w32}

@@ -15,7 +15,7 @@ use Rattle.stability.proofs.lpc_inverse_pred_gain_qa.Given as goal
 
 abbrev pub invariant-loop-k : goal.invariant-loop-k
 invariant-loop-k l =
-    (l.k < 16) × (length l.a ≡ 16) × (steps a_limit (to_z w32 l.edition) l.initial.a (to_z w32 l.initial.gain) l.initial.k ≡ steps a_limit (to_z w32 l.edition) l.a (to_z w32 l.gain) l.k)
+    (l.k < 16) × (length l.a ≡ 16) × (steps a_limit l.edition l.initial.a l.initial.gain l.initial.k ≡ steps a_limit l.edition l.a l.gain l.k)
 
 abbrev pub decreases-loop-k : goal.decreases-loop-k
 decreases-loop-k l = l.k

@@ -35,7 +35,7 @@ loop-n-preserved c =
     let k = s.k in
     let n = c.loop-n.n in
     let i = c.loop-n.invariant in
-    let f = down (of_z w32 s.rc) (of_z w32 s.mult2) (of_z w32 s.q) a k in
+    let f = down (to_z w32 (of_z w32 s.rc)) (to_z w32 (of_z w32 s.mult2)) (to_z w32 (of_z w32 s.q)) a k in
     let g : ℕ → ℤ = λ j. wrap32 (f j) in
     let h : n + n < k = omega (arith, c.loop-n-test.true) in
     let left = kept w32 (get_or c.loop-n.a n (pos 0)) c.x-1.given ∙ turned_left g a k c.loop-n.a n h i.4 in
@@ -58,7 +58,7 @@ returns c =
     let i = c.loop-n.invariant in
     let a = c.args.a.now in
     let k = c.args.k in
-    let f = down (of_z w32 c.args.rc) (of_z w32 c.args.mult2) (of_z w32 c.args.q) a k in
+    let f = down (to_z w32 (of_z w32 c.args.rc)) (to_z w32 (of_z w32 c.args.mult2)) (to_z w32 (of_z w32 c.args.q)) a k in
     let e = le_antisymm i.0 c.loop-n-test.false ∙ i.1 in
     rw (← to_z-of_z c.ranges.rc, ← to_z-of_z c.ranges.mult2, ← to_z-of_z c.ranges.q) (
       rw e at i.3 ∙ pairs_all f k,

@@ -19,9 +19,9 @@ use Rattle.stability.proofs.Ends.{Turned, turned_none, turned_left, turned_right
 use Rattle.stability.proofs.step_all.Given as goal
 
 -- coefficient n after the step
-abbrev pub down : ℕ → ℕ → ℕ → List ℤ → ℕ → ℕ → ℤ
+abbrev pub down : ℤ → ℤ → ℤ → List ℤ → ℕ → ℕ → ℤ
 down rc mult2 q a k n =
-    step_down (to_z w32 rc) (to_z w32 mult2) (to_z w32 q) (get_or a n (pos 0)) (get_or a (k - 1 - n) (pos 0))
+    step_down rc mult2 q (get_or a n (pos 0)) (get_or a (k - 1 - n) (pos 0))
 
 abbrev pub invariant-loop-n : goal.invariant-loop-n
 invariant-loop-n l =
