@@ -7,16 +7,12 @@ use Rattle.recording.specs.Frames.{recorded_at}
 use Rattle.culprit.specs.Search.{was_received}
 use Rattle.culprit.proofs.Laws.{and_true, and_false}
 use borrow.Author.Rules.{rules}
-use Rattle.culprit.proofs.is_culprit.Goals.{After-was_received, Start}
+use Rattle.culprit.proofs.is_culprit.Goals.{After-was_received}
 use Rattle.culprit.proofs.is_culprit.Goals as goal
 
 -- the frame's kind
-module _ (c : After-was_received) where
-  abbrev s : Start
-  s = c.before.before.before.before.before
-
-  kind : was_received (recorded_at s.args.bytes.now (get_or s.args.records.now s.args.k 0)) ≡ c.was_received.result
-  kind = sym (c.was_received.ensures ∙ ap (λ (i : ℕ). was_received (recorded_at s.args.bytes.now i)) c.wide8.ensures.0)
+kind : (c : After-was_received) → was_received (recorded_at c.args.bytes.now (get_or c.args.records.now c.args.k 0)) ≡ c.was_received.result
+kind c = sym (c.was_received.ensures ∙ ap (λ (i : ℕ). was_received (recorded_at c.args.bytes.now i)) c.wide8.ensures.0)
 
 pub was_received-requires : goal.was_received-requires
 was_received-requires c =
@@ -24,8 +20,7 @@ was_received-requires c =
 
 pub returns-then-was_received : goal.returns-then-was_received
 returns-then-was_received c =
-    let a = s c.before.before in
-    rw (and_true _ _ (kind c.before.before ∙ c.if-was_received.true), c.lost_passes.ensures, to_z-of_z a.fits.limit, to_z-of_z a.fits.khz, to_z-of_z a.fits.nb-subfr)
+    rw (and_true _ _ (kind c.before.before ∙ c.if-was_received.true), c.lost_passes.ensures, to_z-of_z c.ranges.limit, to_z-of_z c.ranges.khz, to_z-of_z c.ranges.nb_subfr)
 
 pub returns : goal.returns
 returns c = sym (and_false _ _ (kind c.before ∙ c.if-was_received.false))

@@ -12,32 +12,29 @@ use Rattle.recording.specs.Frames.{recorded_at}
 use Rattle.culprit.specs.Search.{passes}
 use Rattle.culprit.proofs.Laws.{heard-step, or_true, or_false}
 use borrow.Author.Rules.{rules}
-use Rattle.culprit.proofs.lost_passes.Goals.{After-lost_heard-h, Start}
+use Rattle.culprit.proofs.lost_passes.Goals.{After-lost_heard-h}
 use Rattle.culprit.proofs.lost_passes.Goals as goal
 
 -- the loss
 module _ (c : After-lost_heard-h) where
-  abbrev s : Start
-  s = c.before.before.before
-
   abbrev L : ℤ
-  L = to_z w32 (of_z w32 s.args.limit)
+  L = to_z w32 (of_z w32 c.args.limit)
 
   abbrev K : ℤ
-  K = to_z w32 (of_z w32 s.args.khz)
+  K = to_z w32 (of_z w32 c.args.khz)
 
   abbrev N : ℤ
-  N = to_z w32 (of_z w32 s.args.nb-subfr)
+  N = to_z w32 (of_z w32 c.args.nb_subfr)
 
   abbrev behind : List Recorded
-  behind = map (recorded_at s.args.bytes.now) (drop (s.args.k + 1) (take s.args.n s.args.records.now))
+  behind = map (recorded_at c.args.bytes.now) (drop (c.args.k + 1) (take c.args.n c.args.records.now))
 
-  turn : passes s.args.limit s.args.khz s.args.nb-subfr s.args.s (lost ∷ behind) ≡ (c.lost_heard-h.result.loud || passes L K N c.lost_heard-h.result.state behind)
+  turn : passes c.args.limit c.args.khz c.args.nb_subfr c.args.s (lost ∷ behind) ≡ (c.lost_heard-h.result.loud || passes L K N c.lost_heard-h.result.state behind)
   turn =
-      let l = to_z-of_z s.fits.limit in
-      let h = to_z-of_z s.fits.khz in
-      let m = to_z-of_z s.fits.nb-subfr in
-      sym (λ i. passes (l i) (h i) (m i) s.args.s (lost ∷ behind)) ∙ heard-step L K N s.args.s lost behind c.lost_heard-h.result c.lost_heard-h.ensures
+      let l = to_z-of_z c.ranges.limit in
+      let h = to_z-of_z c.ranges.khz in
+      let m = to_z-of_z c.ranges.nb_subfr in
+      sym (λ i. passes (l i) (h i) (m i) c.args.s (lost ∷ behind)) ∙ heard-step L K N c.args.s lost behind c.lost_heard-h.result c.lost_heard-h.ensures
 
 pub returns-then-h : goal.returns-then-h
 returns-then-h c = sym (turn c.before.before ∙ or_true c.lost_heard-h.result.loud _ c.if-h.true)

@@ -15,45 +15,29 @@ use Rattle.heard.specs.Loud.{heard_of}
 use Rattle.culprit.specs.Search.{passes}
 use Rattle.culprit.proofs.Laws.{frames-step, frames_done, or_true, or_false}
 use borrow.Author.Rules.{rules}
-use Rattle.culprit.proofs.passes.Goals.{After-heard_at-h, At-loop-k, Start}
+use Rattle.culprit.proofs.passes.Goals.{After-heard_at-h}
 use Rattle.culprit.proofs.passes.Goals as goal
 
 -- a turn
 module _ (c : After-heard_at-h) where
-  abbrev at : At-loop-k
-  at = c.before.before.before.before
-
-  abbrev s : Start
-  s = at.before.before.before
-
   abbrev L : ℤ
-  L = to_z w32 (of_z w32 s.args.limit)
+  L = to_z w32 (of_z w32 c.args.limit)
 
   abbrev K : ℤ
-  K = to_z w32 (of_z w32 s.args.khz)
+  K = to_z w32 (of_z w32 c.args.khz)
 
   abbrev N : ℤ
-  N = to_z w32 (of_z w32 s.args.nb-subfr)
+  N = to_z w32 (of_z w32 c.args.nb_subfr)
 
   abbrev frame : ℕ → Recorded
-  frame = recorded_at s.args.bytes.now
+  frame = recorded_at c.args.bytes.now
 
-  heard-is : c.heard_at-h.result ≡ heard_of L at.loop.state (call_of K N (frame (get_or s.args.records.now at.loop.k 0)))
-  heard-is = c.heard_at-h.ensures ∙ ap (λ (i : ℕ). heard_of L at.loop.state (call_of K N (frame i))) c.wide8-i.ensures.0
+  heard-is : c.heard_at-h.result ≡ heard_of L c.loop-k.state (call_of K N (frame (get_or c.args.records.now c.loop-k.k 0)))
+  heard-is = c.heard_at-h.ensures ∙ ap (λ (i : ℕ). heard_of L c.loop-k.state (call_of K N (frame i))) c.wide8-i.ensures.0
 
-  turn : passes L K N s.args.s (map frame (drop s.args.from (take s.args.n s.args.records.now)))
-      ≡ (c.heard_at-h.result.loud || passes L K N c.heard_at-h.result.state (map frame (drop (at.loop.k + 1) (take s.args.n s.args.records.now))))
-  turn = at.loop.inv.1 ∙ frames-step frame s.args.records.now s.args.n s.pre.1 L K N at.loop.state at.loop.k c.heard_at-h.result (search rules) heard-is
-
--- the numbers that are lent
-module _ (s : Start) where
-  given : passes (to_z w32 (of_z w32 s.args.limit)) (to_z w32 (of_z w32 s.args.khz)) (to_z w32 (of_z w32 s.args.nb_subfr)) s.args.s (map (recorded_at s.args.bytes.now) (drop s.args.from (take s.args.n s.args.records.now)))
-      ≡ passes s.args.limit s.args.khz s.args.nb_subfr s.args.s (map (recorded_at s.args.bytes.now) (drop s.args.from (take s.args.n s.args.records.now)))
-  given =
-      let l = to_z-of_z s.ranges.limit in
-      let h = to_z-of_z s.ranges.khz in
-      let m = to_z-of_z s.ranges.nb_subfr in
-      λ i. passes (l i) (h i) (m i) s.args.s (map (recorded_at s.args.bytes.now) (drop s.args.from (take s.args.n s.args.records.now)))
+  turn : passes L K N c.args.s (map frame (drop c.args.from (take c.args.n c.args.records.now)))
+      ≡ (c.heard_at-h.result.loud || passes L K N c.heard_at-h.result.state (map frame (drop (c.loop-k.k + 1) (take c.args.n c.args.records.now))))
+  turn = c.loop-k.invariant.1 ∙ frames-step frame c.args.records.now c.args.n c.requires.1 L K N c.loop-k.state c.loop-k.k c.heard_at-h.result (search rules) heard-is
 
 pub loop-k-init : goal.loop-k-init
 loop-k-init c = (search rules, refl)
@@ -64,7 +48,11 @@ heard_at-h-requires c =
 
 pub returns-then-h : goal.returns-then-h
 returns-then-h c =
-    sym (turn c.before.before ∙ or_true c.heard_at-h.result.loud _ c.if-h.true) ∙ given (s c.before.before)
+    let l = to_z-of_z c.ranges.limit in
+    let h = to_z-of_z c.ranges.khz in
+    let m = to_z-of_z c.ranges.nb_subfr in
+    sym (turn c.before.before ∙ or_true c.heard_at-h.result.loud _ c.if-h.true)
+    ∙ λ i. passes (l i) (h i) (m i) c.args.s (map (recorded_at c.args.bytes.now) (drop c.args.from (take c.args.n c.args.records.now)))
 
 pub loop-k-preserved : goal.loop-k-preserved
 loop-k-preserved c =
@@ -72,5 +60,8 @@ loop-k-preserved c =
 
 pub returns : goal.returns
 returns c =
+    let l = to_z-of_z c.ranges.limit in
+    let h = to_z-of_z c.ranges.khz in
+    let m = to_z-of_z c.ranges.nb_subfr in
     sym (c.loop-k.invariant.1 ∙ frames_done (recorded_at c.args.bytes.now) c.args.records.now c.args.n c.requires.1 _ _ _ c.loop-k.state c.loop-k.k (le_antisymm c.loop-k.invariant.0 c.loop-k-test.false))
-    ∙ given c.before.before.before.before
+    ∙ λ i. passes (l i) (h i) (m i) c.args.s (map (recorded_at c.args.bytes.now) (drop c.args.from (take c.args.n c.args.records.now)))

@@ -20,8 +20,8 @@ use Rattle.culprit.proofs.passes.Given as goal
 abbrev pub invariant-loop-k : goal.invariant-loop-k
 invariant-loop-k l =
     (l.k ≤ l.n)
-    × (passes (to_z w32 l.limit) (to_z w32 l.khz) (to_z w32 l.nb_subfr) l.initial.state (map (recorded_at l.bytes) (drop l.from (take l.n l.records)))
-    ≡ passes (to_z w32 l.limit) (to_z w32 l.khz) (to_z w32 l.nb_subfr) l.state (map (recorded_at l.bytes) (drop l.k (take l.n l.records))))
+    × (passes l.limit l.khz l.nb_subfr l.initial.state (map (recorded_at l.bytes) (drop l.from (take l.n l.records)))
+    ≡ passes l.limit l.khz l.nb_subfr l.state (map (recorded_at l.bytes) (drop l.k (take l.n l.records))))
 
 abbrev pub decreases-loop-k : goal.decreases-loop-k
 decreases-loop-k l = l.n - l.k

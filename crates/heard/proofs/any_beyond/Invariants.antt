@@ -15,7 +15,7 @@ use borrow.Author.Rules.{rules}
 use Rattle.heard.proofs.any_beyond.Given as goal
 
 abbrev pub invariant-loop-i : goal.invariant-loop-i
-invariant-loop-i l = (l.i ≤ l.i-end) × (l.i-end ≡ length l.xs) × (l.loud ≡ any_beyond (to_z w32 l.limit) (take l.i l.xs))
+invariant-loop-i l = (l.i ≤ l.i-end) × (l.i-end ≡ length l.xs) × (l.loud ≡ any_beyond l.limit (take l.i l.xs))
 
 abbrev pub decreases-loop-i : goal.decreases-loop-i
 decreases-loop-i l = l.i-end - l.i
