@@ -5,7 +5,7 @@ use mathlib.Core.List.{List, [], ◌∷◌}
 use native.Mathlib.Omega.{arith}
 use native.Mathlib.Nat.{mod-eq_of_lt}
 use lib.IntN.{ℤ, pos, ◌+ℤ◌, ◌*ℤ◌, +ℤ_assoc, pos-+ℤ-pos, pos-*ℤ-pos}
-use lib.ListN.{length, get_or}
+use lib.ListN.{length}
 use lib.Pow.{pow_pos}
 use mir.Syntax.{Width, w8, w16, w32, w64, w128}
 use mir.Val.{bits, SFits}

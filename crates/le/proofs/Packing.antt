@@ -8,8 +8,8 @@ use native.Mathlib.Nat.{mul-le-mul_left}
 use borrow.Author.Tests.{ltb-true, ltb-false}
 use lib.Dec.{ltb}
 use lib.IntN.{ℤ, pos}
-use lib.ListN.{length, get_or, take, drop, length-append, length-drop, get_or-eq_default}
-use lib.Seq.{take_at, drop_at, take-add, drop-drop, get_or-take, get_or-drop, length-take-le}
+use lib.ListN.{length, get_or, take, drop, length-append, length-drop}
+use lib.Seq.{take_at, drop_at, take-add, drop-drop, get_or-drop, length-take-le}
 use mir.Syntax.{Width}
 use mir.Val.{SFits}
 use Rattle.word.specs.Int.{wrap}

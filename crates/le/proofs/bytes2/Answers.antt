@@ -1,11 +1,9 @@
 use mathlib.Core.List.{[], ◌∷◌}
 use mathlib.Core.Path.{◌∙◌}
-use lib.IntN.{pos}
 use mir.Syntax.{w32}
 use mir.Facts.{to_z-of_z}
 use Rattle.word.proofs.Words.{kept}
 use Rattle.word.specs.Int.{mod_ℤ, floor_div}
-use borrow.Author.Rules.{rules}
 use Rattle.le.proofs.bytes2.Goals as goal
 
 pub returns : goal.returns

@@ -4,7 +4,6 @@ use mir.Syntax.{w32}
 use mir.Facts.{to_z-of_z}
 use Rattle.word.specs.Int.{mod_ℤ, floor_div}
 use Rattle.word.proofs.Words.{kept}
-use borrow.Author.Rules.{rules}
 use Rattle.le.proofs.bytes4.Goals as goal
 
 pub returns : goal.returns

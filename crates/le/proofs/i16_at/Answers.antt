@@ -1,7 +1,6 @@
 use mir.Syntax.{w16}
 use Rattle.word.proofs.Words.{kept}
 use Rattle.le.specs.Bytes.{signed_at}
-use borrow.Author.Rules.{rules}
 use Rattle.le.proofs.i16_at.Goals as goal
 
 pub returns : goal.returns

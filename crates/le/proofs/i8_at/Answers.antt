@@ -1,7 +1,4 @@
-use mathlib.Core.Path.{sym, ap, ◌∙◌}
-use lib.IntN.{pos}
 use mir.Syntax.{w8}
-use Rattle.word.specs.Int.{wrap}
 use Rattle.word.proofs.Words.{kept}
 use Rattle.le.specs.Bytes.{signed_at}
 use Rattle.le.proofs.Places.{one_byte}

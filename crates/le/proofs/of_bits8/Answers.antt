@@ -2,7 +2,6 @@ use native.Mathlib.Omega.{arith}
 use mir.Syntax.{w8, w16}
 use mir.Facts.{to_z_pos}
 use Rattle.word.proofs.Words.{kept}
-use borrow.Author.Rules.{rules}
 use Rattle.le.proofs.of_bits8.Goals as goal
 
 pub returns : goal.returns

@@ -1,5 +1,4 @@
 use mir.Facts.{to_z-of_z}
-use borrow.Author.Rules.{rules}
 use Rattle.le.proofs.put32.Goals as goal
 
 pub returns : goal.returns

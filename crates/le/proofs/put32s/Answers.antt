@@ -1,12 +1,8 @@
-use Prim.Native.Nat.{◌≤◌, ◌-◌}
-use mathlib.Core.Path.{◌≡◌, ◌∙◌, ap}
 use native.Mathlib.Nat.{le_antisymm}
 use native.Mathlib.Numerals.{add-one}
 use native.Mathlib.Omega.{arith}
-use lib.ListN.{length}
 use mir.Syntax.{w32}
 use Rattle.word.proofs.Words.{kept}
-use Rattle.le.specs.Bytes.{packed, with_bytes}
 use Rattle.le.proofs.Packing.{packed_none, packed_more}
 use borrow.Author.Rules.{rules}
 use Rattle.le.proofs.put32s.Goals as goal

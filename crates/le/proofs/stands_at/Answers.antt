@@ -1,8 +1,6 @@
-use Prim.Native.Nat.{◌≤◌, ◌-◌}
-use mathlib.Core.Path.{◌≡◌, refl}
+use mathlib.Core.Path.{refl}
 use native.Mathlib.Numerals.{add-one}
 use native.Mathlib.Nat.{le_antisymm}
-use lib.ListN.{length, drop}
 use lib.Seq.{get_or-drop}
 use Rattle.le.specs.Bytes.{same}
 use borrow.Author.Rules.{rules}
