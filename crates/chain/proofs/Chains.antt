@@ -47,6 +47,7 @@ held_low k (suc m) xs h =
 -- one number more
 held_more : (k m : ℕ) (xs : List ℕ) → is_among k xs ≡ false → k < m → held (xs ++ k ∷ []) m ≡ suc (held xs m)
 unfolding held
+held_more k zero xs f h = elim h [ ]
 held_more k (suc m) xs f h = go (λ l. held_more k m xs f l) (eqb m k) refl
   where
     go : (k < m → held (xs ++ k ∷ []) m ≡ suc (held xs m)) → (t : Bool) → eqb m k ≡ t → held (xs ++ k ∷ []) (suc m) ≡ suc (held xs (suc m))
@@ -93,6 +94,7 @@ pub few : FewFrames
 few b met i h r = go (records_in b) h (held-is b met i r)
   where
     go : (m : ℕ) → 0 < m → held met m ≡ length met → suc (length met) ≤ m
+    go zero h e = elim h [ ]
     go (suc m) h e = omega (arith, held_le m met (no_zero b met i r), e)
 
 -- with no record left, the next number is past the end or met before

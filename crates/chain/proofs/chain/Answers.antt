@@ -8,38 +8,24 @@ use lib.Seq.{take-suc-set}
 use Rattle.chain.specs.Chain.{records_in, next_of, is_among, Chain, through, broken, chain_from, chain_of, padded, order_of}
 use Rattle.chain.proofs.Steps.{whole, step_end, step-none, step_past, step-met, step-on, records_more, order_through}
 use borrow.Author.Rules.{rules}
-use Rattle.chain.proofs.chain.Goals.{After-is_among, At-loop-k, Else-next-eq0}
+use Rattle.chain.proofs.chain.Goals.{After-is_among, Else-next-eq0}
 use Rattle.chain.proofs.chain.Goals as goal
 
-module _ (c : At-loop-k) where
-  abbrev bytes : List ℕ
-  bytes = c.args.bytes.now
-
-  abbrev count : ℕ
-  count = length bytes / 1024
-
-  abbrev met : List ℕ
-  met = take c.loop-k.k c.loop-k.records
-
 -- a number that is not 0
-module _ (c : Else-next-eq0) where
-  on : next_of (bytes c.before.before.before) c.loop-k.at ≡ 0 → ⊥
-  on e = c.if-next-eq0.false (c.next_of-next.ensures ∙ e)
+on : (c : Else-next-eq0) → next_of c.args.bytes.now c.loop-k.at ≡ 0 → ⊥
+on c e = c.if-next-eq0.false (c.next_of-next.ensures ∙ e)
 
 -- the number is below the end, and whether it was met
 module _ (c : After-is_among) where
-  abbrev start : At-loop-k
-  start = c.before.before.before.before.before.before.before
-
-  next-is : c.next_of-next.result ≡ next_of (bytes start) start.loop.at
+  next-is : c.next_of-next.result ≡ next_of c.args.bytes.now c.loop-k.at
   next-is = c.next_of-next.ensures
 
-  below : next_of (bytes start) start.loop.at < records_in (bytes start)
+  below : next_of c.args.bytes.now c.loop-k.at < records_in c.args.bytes.now
   unfolding records_in
   below = let t = c.if-next-n.false in omega (arith, next-is)
 
-  met-is : c.is_among.result ≡ is_among (next_of (bytes start) start.loop.at) (met start)
-  met-is = c.is_among.ensures ∙ ap (λ (k : ℕ). is_among k (met start)) next-is
+  met-is : c.is_among.result ≡ is_among (next_of c.args.bytes.now c.loop-k.at) (take c.loop-k.k c.loop-k.records)
+  met-is = c.is_among.ensures ∙ ap (λ (k : ℕ). is_among k (take c.loop-k.k c.loop-k.records)) next-is
 
 pub loop-k-init : goal.loop-k-init
 unfolding records_in chain_of padded
@@ -60,38 +46,48 @@ loop-k-init c =
 
 pub returns-then-next-eq0 : goal.returns-then-next-eq0
 returns-then-next-eq0 c =
+    let b = c.args.bytes.now in
     let i = c.loop-k.invariant in
-    order_through (bytes c.before.before.before) c.loop-k.records c.loop-k.k
-    (i.7 ∙ step_end (bytes c.before.before.before) (met c.before.before.before) c.loop-k.at (count c.before.before.before - 1 - c.loop-k.k) (sym c.next_of-next.ensures ∙ c.if-next-eq0.true))
+    order_through b c.loop-k.records c.loop-k.k
+    (i.7 ∙ step_end b (take c.loop-k.k c.loop-k.records) c.loop-k.at (length b / 1024 - 1 - c.loop-k.k) (sym c.next_of-next.ensures ∙ c.if-next-eq0.true))
     i.6 i.5 (omega arith)
 
 pub returns-then-k-n : goal.returns-then-k-n
 returns-then-k-n c =
-    let z : count c.before.before.before.before.before - 1 - c.loop-k.k ≡ 0 = let t = c.if-k-n.true in omega arith in
+    let b = c.args.bytes.now in
+    let met = take c.loop-k.k c.loop-k.records in
+    let z : length b / 1024 - 1 - c.loop-k.k ≡ 0 = let t = c.if-k-n.true in omega arith in
     c.broken.ensures
-    ∙ ap order_of (sym (c.loop-k.invariant.7 ∙ ap (λ (m : ℕ). chain_from (bytes c.before.before.before.before.before) m (met c.before.before.before.before.before) c.loop-k.at) z ∙ step-none (bytes c.before.before.before.before.before) (met c.before.before.before.before.before) c.loop-k.at (on c.before.before)))
+    ∙ ap order_of (sym (c.loop-k.invariant.7 ∙ ap (λ (m : ℕ). chain_from b m met c.loop-k.at) z ∙ step-none b met c.loop-k.at (on (goal.at.returns-then-k-n c).Else-next-eq0)))
 
 pub returns-then-next-n : goal.returns-then-next-n
 unfolding records_in
 returns-then-next-n c =
-    let h : records_in (bytes c.before.before.before.before.before.before) ≤ next_of (bytes c.before.before.before.before.before.before) c.loop-k.at = let t = c.if-next-n.true in omega (arith, c.next_of-next.ensures) in
+    let b = c.args.bytes.now in
+    let h : records_in b ≤ next_of b c.loop-k.at = let t = c.if-next-n.true in omega (arith, c.next_of-next.ensures) in
     c.broken-then-next-n.ensures
-    ∙ ap order_of (sym (c.loop-k.invariant.7 ∙ step_past (bytes c.before.before.before.before.before.before) (met c.before.before.before.before.before.before) c.loop-k.at (count c.before.before.before.before.before.before - 1 - c.loop-k.k) (on c.before.before.before) h))
+    ∙ ap order_of (sym (c.loop-k.invariant.7 ∙ step_past b (take c.loop-k.k c.loop-k.records) c.loop-k.at (length b / 1024 - 1 - c.loop-k.k) (on (goal.at.returns-then-next-n c).Else-next-eq0) h))
 
 pub returns-then-is_among : goal.returns-then-is_among
 returns-then-is_among c =
-    let l = start c.before.before in
+    let b = c.args.bytes.now in
+    let met = take c.loop-k.k c.loop-k.records in
+    let a = (goal.at.returns-then-is_among c).After-is_among in
     c.broken-then-is_among.ensures
-    ∙ ap order_of (sym (l.loop.inv.7 ∙ step-met (bytes l) (met l) l.loop.at (count l - 1 - l.loop.k) (on c.before.before.before.before.before.before) (below c.before.before) (sym (met-is c.before.before) ∙ c.if-is_among.true)))
+    ∙ ap order_of (sym (c.loop-k.invariant.7 ∙ step-met b met c.loop-k.at (length b / 1024 - 1 - c.loop-k.k) (on (goal.at.returns-then-is_among c).Else-next-eq0) (below a) (sym (met-is a) ∙ c.if-is_among.true)))
 
 pub loop-k-preserved : goal.loop-k-preserved
 loop-k-preserved c =
-    let l = start c.before in
-    let i = l.loop.inv in
+    let b = c.args.bytes.now in
+    let n = length b / 1024 in
+    let at = c.loop-k.at in
+    let a = (goal.at.loop-k-preserved c).After-is_among in
+    let i = c.loop-k.invariant in
     let v = c.next_of-next.result in
-    let k = l.loop.k in
-    let r = l.loop.records in
-    let e : count l - 1 - k ≡ suc (count l - 1 - (k + 1)) = let t = c.if-k-n.false in omega (arith, i.4) in (
+    let k = c.loop-k.k in
+    let r = c.loop-k.records in
+    let met = take k r in
+    let e : n - 1 - k ≡ suc (n - 1 - (k + 1)) = let t = c.if-k-n.false in omega (arith, i.4) in (
       i.0,
       i.1,
       i.2,
@@ -99,10 +95,10 @@ loop-k-preserved c =
       search rules,
       length-set r k v ∙ i.5,
       records_more r k v i.5 (omega arith) i.6,
-      i.7 ∙ ap (λ (m : ℕ). chain_from (bytes l) m (met l) l.loop.at) e
-          ∙ step-on (bytes l) (met l) l.loop.at (count l - 1 - (k + 1)) (on c.before.before.before.before.before) (below c.before) (sym (met-is c.before) ∙ c.if-is_among.false)
-          ∙ ap (λ (n : ℕ). chain_from (bytes l) (count l - 1 - (k + 1)) (met l ++ n ∷ []) n) (sym (next-is c.before))
-          ∙ ap (λ (t : List ℕ). chain_from (bytes l) (count l - 1 - (k + 1)) t v) (sym (rw (add-one k) (take-suc-set r k v (omega arith)))),
+      i.7 ∙ ap (λ (m : ℕ). chain_from b m met at) e
+          ∙ step-on b met at (n - 1 - (k + 1)) (on (goal.at.loop-k-preserved c).Else-next-eq0) (below a) (sym (met-is a) ∙ c.if-is_among.false)
+          ∙ ap (λ (m : ℕ). chain_from b (n - 1 - (k + 1)) (met ++ m ∷ []) m) (sym (next-is a))
+          ∙ ap (λ (t : List ℕ). chain_from b (n - 1 - (k + 1)) t v) (sym (rw (add-one k) (take-suc-set r k v (omega arith)))),
     )
 
 pub returns : goal.returns

@@ -12,4 +12,4 @@ unfolding digit
 returns c =
     let d : c.args.d < 2147483648 = omega arith in
     let e = to_z_pos w32 {n = c.args.d} d in
-    rw (c.add32.ensures, kept w32 _ c.mul32.type_inv, c.mul32.ensures, e, kept w32 c.args.l.value c.struct_told-1.given.1.1.0.1)
+    rw (kept w32 _ c.add32.type_inv, c.add32.ensures, kept w32 _ c.mul32.type_inv, c.mul32.ensures, e, kept w32 c.args.l.value c.struct_told-1.given.1.1.0.1)
