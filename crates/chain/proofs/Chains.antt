@@ -8,8 +8,8 @@ use native.Mathlib.Omega.{arith}
 use borrow.Author.Tests.{eqb-true, eqb-false, ne_eqb, leb-true, leb-false}
 use lib.Dec.{eqb, leb}
 use lib.ListN.{length, length-append}
-use Rattle.chain.specs.Chain.{next_of, records_in, is_among, Chain, through, broken, chain_from, chain_of}
-use Rattle.chain.specs.Claims.{Reaches, start, next, Breaks, Ends, Means, ChainMeans, FewFrames}
+use Rattle.chain.specs.Chain.{next_of, records_in, is_among, through, broken, chain_from, chain_of}
+use Rattle.chain.specs.Claims.{Reaches, start, next, Means, ChainMeans, FewFrames}
 
 -- how many of the numbers below m are among xs
 unfoldable held : List ℕ → ℕ → ℕ

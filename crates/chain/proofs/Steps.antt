@@ -1,7 +1,7 @@
 -- A step of the chain, whatever is left.
 use Prim.Native.Nat.{ℕ, zero, suc, ◌+◌, ◌-◌, ◌*◌, ◌/◌, ◌%◌, ◌≤◌, ◌<◌}
 use mathlib.Core.Path.{◌≡◌, refl, sym, ap, ◌∙◌}
-use mathlib.Core.Bool.{Bool, true, false, cond, ◌&&◌, ◌||◌}
+use mathlib.Core.Bool.{Bool, true, false, ◌&&◌}
 use mathlib.Core.List.{List, [], ◌∷◌, ◌++◌}
 use native.Mathlib.Omega.{arith}
 use native.Mathlib.Numerals.{add-one}
@@ -9,8 +9,7 @@ use borrow.Author.Tests.{eqb-true, ltb-true, leb-true, eq-eqb, ne_eqb, le-leb, l
 use lib.Dec.{eqb, ltb, leb}
 use lib.ListN.{length, take, set, replicate, length-append}
 use lib.Seq.{set_at, append_snoc, length-take-le, take-suc-set}
-use Rattle.chain.specs.Chain.{is_whole, records_in, next_of, is_among, Chain, through, broken, chain_from, chain_of, is_broken, on_chain, padded, order_of}
-use Rattle.chain.specs.declared.Order.{Order}
+use Rattle.chain.specs.Chain.{is_whole, records_in, next_of, is_among, through, broken, chain_from, chain_of, is_broken, on_chain, padded, order_of}
 
 -- what a whole length has
 pub record Whole (n : ℕ) : Type 0 where

@@ -1,5 +1,4 @@
 use Rattle.chain.specs.Chain.{order_of, on_chain, is_broken, padded}
-use borrow.Author.Rules.{rules}
 use Rattle.chain.proofs.broken.Goals as goal
 
 pub returns : goal.returns

@@ -1,11 +1,11 @@
-use Prim.Native.Nat.{ℕ, suc, ◌+◌, ◌*◌, ◌-◌, ◌/◌, ◌≤◌, ◌<◌}
-use mathlib.Core.Path.{◌≡◌, refl, sym, ap, ◌∙◌, subst}
+use Prim.Native.Nat.{ℕ, suc, ◌+◌, ◌-◌, ◌/◌, ◌≤◌, ◌<◌}
+use mathlib.Core.Path.{◌≡◌, refl, sym, ap, ◌∙◌}
 use mathlib.Core.List.{List, [], ◌∷◌, ◌++◌}
 use native.Mathlib.Numerals.{add-one}
 use native.Mathlib.Omega.{arith}
-use lib.ListN.{length, take, set, length-set}
+use lib.ListN.{length, take, length-set}
 use lib.Seq.{take-suc-set}
-use Rattle.chain.specs.Chain.{records_in, next_of, is_among, Chain, through, broken, chain_from, chain_of, padded, order_of}
+use Rattle.chain.specs.Chain.{records_in, next_of, is_among, chain_from, chain_of, padded, order_of}
 use Rattle.chain.proofs.Steps.{whole, step_end, step-none, step_past, step-met, step-on, records_more, order_through}
 use borrow.Author.Rules.{rules}
 use Rattle.chain.proofs.chain.Goals.{After-is_among, Else-next-eq0}

@@ -1,8 +1,6 @@
-use Prim.Native.Nat.{◌≤◌, ◌-◌}
-use mathlib.Core.Path.{◌≡◌, refl}
+use mathlib.Core.Path.{refl}
 use native.Mathlib.Numerals.{add-one}
 use native.Mathlib.Nat.{le_antisymm}
-use lib.ListN.{take}
 use lib.Seq.{take-suc}
 use Rattle.chain.specs.Chain.{is_among}
 use Rattle.chain.proofs.Chains.{among_snoc}

@@ -1,12 +1,7 @@
 use Prim.Native.Nat.{◌≤◌, ◌-◌}
-use mathlib.Core.Path.{◌≡◌, refl}
-use native.Mathlib.Numerals.{add-one}
-use native.Mathlib.Nat.{le_antisymm}
+use mathlib.Core.Path.{◌≡◌}
 use lib.ListN.{take}
-use lib.Seq.{take-suc}
 use Rattle.chain.specs.Chain.{is_among}
-use Rattle.chain.proofs.Chains.{among_snoc}
-use borrow.Author.Rules.{rules}
 use Rattle.chain.proofs.is_among.Given as goal
 
 abbrev pub invariant-loop-j : goal.invariant-loop-j

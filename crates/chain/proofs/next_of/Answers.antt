@@ -1,5 +1,4 @@
 use Rattle.chain.specs.Chain.{next_of}
-use borrow.Author.Rules.{rules}
 use Rattle.chain.proofs.next_of.Goals as goal
 
 pub returns : goal.returns

@@ -13,7 +13,7 @@ use borrow.Author.Rules.{rules}
 use Rattle.checksum.proofs.sum16.Given as goal
 
 abbrev pub invariant-loop-i : goal.invariant-loop-i
-invariant-loop-i l = (l.i ≤ l.i-end) × (l.i-end ≡ length l.numbers) × (to_z w32 l.s ≡ sum_from l.h l.numbers l.i)
+invariant-loop-i l = (l.i ≤ l.i-end) × (l.i-end ≡ length l.numbers) × (l.s ≡ sum_from l.h l.numbers l.i)
 
 abbrev pub decreases-loop-i : goal.decreases-loop-i
 decreases-loop-i l = l.i-end - l.i

@@ -14,7 +14,7 @@ use Rattle.checksum.proofs.sum32.Goals as goal
 
 pub loop-i-init : goal.loop-i-init
 unfolding sum_from
-loop-i-init c = (search rules, search rules, to_z-of_z c.ranges.h)
+loop-i-init c = (search rules, search rules, refl)
 
 pub loop-i-preserved : goal.loop-i-preserved
 unfolding sum_from
@@ -24,4 +24,4 @@ loop-i-preserved c =
 
 pub returns : goal.returns
 returns c =
-    rw (c.loop-i.invariant.2, le_antisymm c.loop-i.invariant.0 c.loop-i-test.false, c.loop-i.invariant.1)
+    rw (c.loop-i.invariant.2, to_z-of_z c.ranges.h, le_antisymm c.loop-i.invariant.0 c.loop-i-test.false, c.loop-i.invariant.1)

@@ -1,4 +1,3 @@
-use borrow.Author.Rules.{rules}
 use Rattle.coefficients.specs.Line.{digit}
 use Rattle.coefficients.proofs.digit.Goals as goal
 

@@ -1,5 +1,4 @@
 use Rattle.line.specs.Line.{blank}
-use borrow.Author.Rules.{rules}
 use Rattle.line.proofs.blank.Goals as goal
 
 pub returns : goal.returns

@@ -4,7 +4,6 @@ use mir.Facts.{to_z_pos}
 use mir.Syntax.{w32}
 use Rattle.word.proofs.Words.{kept}
 use Rattle.line.specs.Line.{digit}
-use borrow.Author.Rules.{rules}
 use Rattle.line.proofs.digit.Goals as goal
 
 pub returns : goal.returns

@@ -1,7 +1,6 @@
 use mathlib.Core.Bool.{Bool, cond}
 use mathlib.Core.Path.{sym, ap, ◌∙◌}
 use Rattle.line.specs.Line.{begun, stored, ended}
-use borrow.Author.Rules.{rules}
 use Rattle.line.proofs.ended.Goals as goal
 
 pub returns-then-l : goal.returns-then-l

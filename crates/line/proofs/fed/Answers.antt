@@ -1,6 +1,5 @@
 use borrow.Author.Tests.{le-ltb, lt-ltb}
 use Rattle.line.specs.Line.{fed}
-use borrow.Author.Rules.{rules}
 use Rattle.line.proofs.fed.Goals as goal
 
 pub returns-then-b-lt48 : goal.returns-then-b-lt48

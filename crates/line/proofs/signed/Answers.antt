@@ -2,7 +2,6 @@ use mir.Facts.{to_z-of_z}
 use mir.Syntax.{w32}
 use Rattle.word.proofs.Words.{kept}
 use Rattle.line.specs.Line.{signed}
-use borrow.Author.Rules.{rules}
 use Rattle.line.proofs.signed.Goals as goal
 
 pub returns-then-negative : goal.returns-then-negative

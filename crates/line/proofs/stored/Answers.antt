@@ -2,7 +2,6 @@ use mir.Syntax.{w32}
 use Rattle.word.proofs.Words.{kept}
 use borrow.Author.Tests.{le-ltb, lt-ltb}
 use Rattle.line.specs.Line.{stored}
-use borrow.Author.Rules.{rules}
 use Rattle.line.proofs.stored.Goals as goal
 
 pub returns-then-at-ge64 : goal.returns-then-at-ge64
