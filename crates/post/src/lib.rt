@@ -1,4 +1,4 @@
-// The functions that a Rust or C program links. A contract is one equation: the answer and the slices at exit are those of the call's definition.
+// The functions that a Rust program links, and a C program by post_c. A contract is one equation: the answer and the slices at exit are those of the call's definition.
 #![tactic(auto)]
 
 ghost use Rattle.std.specs.Prelude.{◌≡◌, [], pos, length};
@@ -30,8 +30,7 @@ fn set_up(
 }
 
 // Set-up with the default settings.
-#[unsafe(no_mangle)]
-pub extern "C" fn post_set_up(
+pub fn post_set_up(
     rate: i32,
     subframes: i32,
     words: &mut [i32],
@@ -44,8 +43,7 @@ pub extern "C" fn post_set_up(
     set_up(rate, subframes, settings, words, halves)
 }
 
-#[unsafe(no_mangle)]
-pub extern "C" fn post_set_up_with(
+pub fn post_set_up_with(
     rate: i32,
     subframes: i32,
     squelch: i32,
@@ -60,8 +58,7 @@ pub extern "C" fn post_set_up_with(
     set_up(rate, subframes, settings, words, halves)
 }
 
-#[unsafe(no_mangle)]
-pub extern "C" fn post_frame(
+pub fn post_frame(
     words: &mut [i32],
     halves: &mut [i16],
     frame: &mut [i32],
@@ -78,16 +75,14 @@ pub extern "C" fn post_frame(
     code(slices::play_frame(words, halves, frame, coefs, pulses, output))
 }
 
-#[unsafe(no_mangle)]
-pub extern "C" fn post_played(rate: i32, subframes: i32, output: &[i16]) -> i32
+pub fn post_played(rate: i32, subframes: i32, output: &[i16]) -> i32
     ensures { result ≡ pos (played_length (shape rate subframes) (length output.now)) }
 {
     let part = decoder::played(rate, subframes, output);
     part.len() as i32
 }
 
-#[unsafe(no_mangle)]
-pub extern "C" fn post_core(
+pub fn post_core(
     words: &mut [i32],
     halves: &mut [i16],
     frame: &mut [i32],
@@ -104,8 +99,7 @@ pub extern "C" fn post_core(
     code(stages::core(words, halves, frame, coefs, pulses, output))
 }
 
-#[unsafe(no_mangle)]
-pub extern "C" fn post_plc_received(
+pub fn post_plc_received(
     words: &mut [i32],
     halves: &mut [i16],
     frame: &[i32],
@@ -120,8 +114,7 @@ pub extern "C" fn post_plc_received(
     code(stages::plc_received(words, halves, frame, coefs))
 }
 
-#[unsafe(no_mangle)]
-pub extern "C" fn post_plc_lost(
+pub fn post_plc_lost(
     words: &mut [i32],
     halves: &mut [i16],
     frame: &mut [i32],
@@ -136,8 +129,7 @@ pub extern "C" fn post_plc_lost(
     code(stages::plc_lost(words, halves, frame, output))
 }
 
-#[unsafe(no_mangle)]
-pub extern "C" fn post_glue(
+pub fn post_glue(
     words: &mut [i32],
     halves: &mut [i16],
     buffer: &mut [i16],
@@ -152,8 +144,7 @@ pub extern "C" fn post_glue(
     code(stages::glue(words, halves, buffer, n))
 }
 
-#[unsafe(no_mangle)]
-pub extern "C" fn post_noise(
+pub fn post_noise(
     words: &mut [i32],
     halves: &mut [i16],
     frame: &[i32],

@@ -1,4 +1,4 @@
-// The functions of filters that a Rust or C program links.
+// The functions of filters that a Rust program links, and a C program by post_filters_c.
 #![tactic(auto)]
 
 ghost use Rattle.std.specs.Prelude.{◌≡◌, cond, ◌++◌, ◌≤◌, pos, length, drop};
@@ -22,8 +22,7 @@ fn put_letters(text: &mut [u8], letters: [u8; 64])
     }
 }
 
-#[unsafe(no_mangle)]
-pub extern "C" fn post_stability(
+pub fn post_stability(
     coefficients: &[i16],
     order: usize,
     edition: i32,
@@ -45,8 +44,7 @@ pub extern "C" fn post_stability(
     0
 }
 
-#[unsafe(no_mangle)]
-pub extern "C" fn post_sentence(
+pub fn post_sentence(
     coefficients: &[i16],
     order: usize,
     edition: i32,
@@ -69,8 +67,7 @@ pub extern "C" fn post_sentence(
     0
 }
 
-#[unsafe(no_mangle)]
-pub extern "C" fn post_filter(
+pub fn post_filter(
     coefficients: &mut [i16],
     lines: &[i16],
     order: usize,
@@ -81,8 +78,7 @@ pub extern "C" fn post_filter(
     code(silk_nlsf2a_under(coefficients, lines, order, edition))
 }
 
-#[unsafe(no_mangle)]
-pub extern "C" fn post_cosine(place: usize, value: &mut [i32]) -> i32
+pub fn post_cosine(place: usize, value: &mut [i32]) -> i32
     ensures { record { answer = result; slice = value.new } ≡ cosine_call place value.old }
 {
     if value.len() < 1 {
@@ -104,8 +100,7 @@ fn yes(b: bool) -> i32
     if b { 1 } else { 0 }
 }
 
-#[unsafe(no_mangle)]
-pub extern "C" fn post_rising(lines: &[i16], order: usize, answer: &mut [i32]) -> i32
+pub fn post_rising(lines: &[i16], order: usize, answer: &mut [i32]) -> i32
     ensures { record { answer = result; slice = answer.exit.now } ≡ rising_call lines.now order answer.entry.now }
 {
     if answer.len() < 1 {

@@ -36,7 +36,7 @@ returns-then-s-eq0 c =
     let e : c.received-new.result ≡ heard_noise p s.exc_q14 s.prev_nlsf_q15 a.gains.now s.prev_signal_type s.s_cng =
     rw (c.received-new.ensures, khz c.before.before.before.before.before.before.before.before.before.before, count c.before.before, kept w32 s.prev_signal_type c.struct_told-then-s-eq0-2-1.given.1.1.1.1.1.1.1.1.1.1.1.1.1.1.1.0.1) in
     let frame = a.frame.now in
-    let one : ◌≡◌ {A = Framed} (record { state = with_noise s c.received-new.result; frame = frame }) (record { state = with_noise s (heard_noise p s.exc_q14 s.prev_nlsf_q15 a.gains.now s.prev_signal_type s.s_cng); frame = frame }) = λ c.before.before.before.before.before.before. record { state = with_noise s (e c.before.before.before.before.before.before); frame = frame } in
+    let one : ◌≡◌ {A = Framed} (record { state = with_noise s c.received-new.result; frame = frame }) (record { state = with_noise s (heard_noise p s.exc_q14 s.prev_nlsf_q15 a.gains.now s.prev_signal_type s.s_cng); frame = frame }) = λ i. record { state = with_noise s (e i); frame = frame } in
     one ∙ sym (received_is p s a.gains.now (length frame) frame z)
 
 pub lost-new-requires : goal.lost-new-requires
@@ -58,5 +58,5 @@ returns c =
     let e : c.lost-new.result ≡ sounded v d h n = rw (c.lost-new.ensures.0, khz c.before.before.before.before.before.before.before.before.before.before.before.before, u) in
     let f : c.lost-new.new.1.1.1.1.1.0 ≡ sounding v d s.s_plc.rand_scale_q14 (get_or s.s_plc.prev_gain_q16 1 (pos 0)) h n frame =
     rw (c.lost-new.ensures.1, khz c.before.before.before.before.before.before.before.before.before.before.before.before, u, kept w16 s.s_plc.rand_scale_q14 c.struct_told-3-1.given.1.1.1.1.1.0.1, kept w32 (get_or s.s_plc.prev_gain_q16 1 (pos 0)) c.lost-arg-1.given) in
-    let one : ◌≡◌ {A = Framed} (record { state = with_noise s c.lost-new.result; frame = c.lost-new.new.1.1.1.1.1.0 }) (record { state = with_noise s (sounded v d h n); frame = sounding v d s.s_plc.rand_scale_q14 (get_or s.s_plc.prev_gain_q16 1 (pos 0)) h n frame }) = λ c.before.before.before.before.before.before.before.before. record { state = with_noise s (e c.before.before.before.before.before.before.before.before); frame = f c.before.before.before.before.before.before.before.before } in
+    let one : ◌≡◌ {A = Framed} (record { state = with_noise s c.lost-new.result; frame = c.lost-new.new.1.1.1.1.1.0 }) (record { state = with_noise s (sounded v d h n); frame = sounding v d s.s_plc.rand_scale_q14 (get_or s.s_plc.prev_gain_q16 1 (pos 0)) h n frame }) = λ i. record { state = with_noise s (e i); frame = f i } in
     one ∙ sym (lost-is p s a.gains.now n frame z)

@@ -26,7 +26,7 @@ unfolding cosine_call
 returns-then-number-ne0 c =
     let s = c.args in
     let u = cosine_at s.place in
-    let e = got w32 c.code.type_inv c.code.ensures ∙ ap (λ c.before.before.before. pos (refusal_number c.refusal)) c.lsf_cos_at-t.ensures in
+    let e = got w32 c.code.type_inv c.code.ensures ∙ ap (λ t. pos (refusal_number t.refusal)) c.lsf_cos_at-t.ensures in
     rw (le-ltb (length s.value.now) 1 c.if-value-lt1.false)
     ((λ i. record { answer = e i; slice = s.value.now })
     ∙ sym (refused u.refusal (u.value ∷ []) s.value.now (λ z. c.if-number-ne0.true (why c.before.before ∙ z))))
@@ -36,6 +36,6 @@ unfolding cosine_call
 returns c =
     let s = c.args in
     let u = cosine_at s.place in
-    let x = got w32 c.wide16.type_inv c.wide16.ensures ∙ kept w16 c.lsf_cos_at-t.result.value c.struct_told-1.given.1.0.1 ∙ ap (λ c.before.before.before.before. c.value) c.lsf_cos_at-t.ensures in
+    let x = got w32 c.wide16.type_inv c.wide16.ensures ∙ kept w16 c.lsf_cos_at-t.result.value c.struct_told-1.given.1.0.1 ∙ ap (λ t. t.value) c.lsf_cos_at-t.ensures in
     rw (le-ltb (length s.value.now) 1 c.if-value-lt1.false, x, set-one s.value.now u.value c.if-value-lt1.false)
     (sym (accepted u.refusal (u.value ∷ []) s.value.now (sym (why c.before.before.before) ∙ c.if-number-ne0.false)))

@@ -27,7 +27,7 @@ unfolding rising_call
 returns-then-number-ne0 c =
     let s = c.args in
     let u = rising_of s.lines.now s.order in
-    let e = got w32 c.code.type_inv c.code.ensures ∙ ap (λ c.before.before.before. pos (refusal_number c.refusal)) c.rising_check-t.ensures in
+    let e = got w32 c.code.type_inv c.code.ensures ∙ ap (λ t. pos (refusal_number t.refusal)) c.rising_check-t.ensures in
     rw (le-ltb (length s.answer.now) 1 c.if-answer-lt1.false)
     ((λ i. record { answer = e i; slice = s.answer.now })
     ∙ sym (refused u.refusal (cond u.rising (pos 1) (pos 0) ∷ []) s.answer.now (λ z. c.if-number-ne0.true (why c.before.before ∙ z))))
@@ -37,6 +37,6 @@ unfolding rising_call
 returns c =
     let s = c.args in
     let u = rising_of s.lines.now s.order in
-    let x = got w32 c.yes.type_inv c.yes.ensures ∙ ap (λ c.before.before.before. cond c.rising (pos 1) (pos 0)) c.rising_check-t.ensures in
+    let x = got w32 c.yes.type_inv c.yes.ensures ∙ ap (λ t. cond t.rising (pos 1) (pos 0)) c.rising_check-t.ensures in
     rw (le-ltb (length s.answer.now) 1 c.if-answer-lt1.false, x, set-one s.answer.now (cond u.rising (pos 1) (pos 0)) c.if-answer-lt1.false)
     (sym (accepted u.refusal (cond u.rising (pos 1) (pos 0) ∷ []) s.answer.now (sym (why c.before.before) ∙ c.if-number-ne0.false)))

@@ -33,7 +33,7 @@ unfolding sentence_call
 returns-then-number-ne0 c =
     let s = c.args in
     let u = tested_under s.coefficients.now s.order s.edition in
-    let e = got w32 c.code.type_inv c.code.ensures ∙ ap (λ c.before.before.before. pos (refusal_number c.refusal)) (answered c.before.before.before) in
+    let e = got w32 c.code.type_inv c.code.ensures ∙ ap (λ t. pos (refusal_number t.refusal)) (answered c.before.before.before) in
     rw (le-ltb (length s.text.now) 64 c.if-text-lt64.false)
     ((λ i. record { answer = e i; slice = s.text.now })
     ∙ sym (refused u.refusal (sentence_of u.answer).letters s.text.now (λ z. c.if-number-ne0.true (why c.before.before ∙ z))))
@@ -43,7 +43,7 @@ unfolding sentence_call
 returns c =
     let s = c.args in
     let u = tested_under s.coefficients.now s.order s.edition in
-    let e = ap (λ x. x.letters) (c.sentence_of-sentence.ensures ∙ ap (λ c.before.before.before.before.before.before.before.before. sentence_of c.answer) (answered c.before.before.before.before.before.before.before.before)) in
+    let e = ap (λ x. x.letters) (c.sentence_of-sentence.ensures ∙ ap (λ t. sentence_of t.answer) (answered c.before.before.before.before.before.before.before.before)) in
     let m : length (sentence_of u.answer).letters ≡ 64 = sym (ap length e) ∙ letters-long c.before.before.before.before.before in
     rw (le-ltb (length s.text.now) 64 c.if-text-lt64.false, c.put_letters.ensures, e)
     (sym (accepted u.refusal (sentence_of u.answer).letters s.text.now (sym (why c.before.before.before.before.before.before.before) ∙ c.if-number-ne0.false) ∙ rw m refl))

@@ -31,7 +31,7 @@ unfolding stability_call
 returns-then-number-ne0 c =
     let s = c.args in
     let u = tested_under s.coefficients.now s.order s.edition in
-    let e = got w32 c.code.type_inv c.code.ensures ∙ ap (λ c.before.before.before. pos (refusal_number c.refusal)) (answered c.before.before.before) in
+    let e = got w32 c.code.type_inv c.code.ensures ∙ ap (λ t. pos (refusal_number t.refusal)) (answered c.before.before.before) in
     rw (le-ltb (length s.answer.now) 2 c.if-answer-lt2.false)
     ((λ i. record { answer = e i; slice = s.answer.now })
     ∙ sym (refused u.refusal (pos (answer_number u.answer) ∷ answer_value u.answer ∷ []) s.answer.now (λ z. c.if-number-ne0.true (why c.before.before ∙ z))))
@@ -42,7 +42,7 @@ returns c =
     let s = c.args in
     let u = tested_under s.coefficients.now s.order s.edition in
     let k = answered c.before.before.before.before in
-    let x = to_z_pos w32 {c.before.before.before = c.answer_number.result} (omega (arith, c.answer_number.type_inv)) ∙ ap pos c.answer_number.ensures ∙ ap (λ c.before.before.before.before. pos (answer_number c.answer)) k in
-    let y = got w32 c.answer_value.type_inv c.answer_value.ensures ∙ ap (λ c.before.before.before.before. answer_value c.answer) k in
+    let x = to_z_pos w32 {n = c.answer_number.result} (omega (arith, c.answer_number.type_inv)) ∙ ap pos c.answer_number.ensures ∙ ap (λ t. pos (answer_number t.answer)) k in
+    let y = got w32 c.answer_value.type_inv c.answer_value.ensures ∙ ap (λ t. answer_value t.answer) k in
     rw (le-ltb (length s.answer.now) 2 c.if-answer-lt2.false, x, y, set-two s.answer.now (pos (answer_number u.answer)) (answer_value u.answer) c.if-answer-lt2.false)
     (sym (accepted u.refusal (pos (answer_number u.answer) ∷ answer_value u.answer ∷ []) s.answer.now (sym (why c.before.before.before) ∙ c.if-number-ne0.false)))
