@@ -7,19 +7,16 @@ use Rattle.layout.specs.Frame.{short_call}
 use Rattle.post.specs.Calls.{called}
 use Rattle.post.specs.Stages.{core_call}
 use Rattle.post.proofs.Ends.{ended}
-use Rattle.post.proofs.post_core.Goals.{Else-short_call}
 use Rattle.post.proofs.post_core.Goals as goal
-
--- no slice is too short
-long : (c : Else-short_call) → let a = c.args in short_call (length a.words.now) (length a.halves.now) (length a.frame.now) (length a.coefs.now) ≡ false
-long c = sym c.short_call.ensures ∙ c.if-short_call.false
 
 pub returns-then-short_call : goal.returns-then-short_call
 unfolding core_call called
 returns-then-short_call c = rw (sym c.short_call.ensures ∙ c.if-short_call.true)
 
 pub core-requires : goal.core-requires
-core-requires c = long c.before.before.before.before.before
+core-requires c =
+    let long : short_call (length c.args.words.now) (length c.args.halves.now) (length c.args.frame.now) (length c.args.coefs.now) ≡ false = sym c.short_call.ensures ∙ c.if-short_call.false in
+    long
 
 pub shape_of-words : goal.shape_of-words
 shape_of-words c = c.core.auto.0
@@ -39,4 +36,5 @@ shape_of-output c = c.core.auto.1.1.1.1.1.0
 pub returns : goal.returns
 unfolding core_call
 returns c =
-    ended _ _ (long c.before.before.before.before.before.before.before.before.before.before.before.before) (kept w32 _ c.code.type_inv ∙ c.code.ensures) c.core.ensures
+    let long : short_call (length c.args.words.now) (length c.args.halves.now) (length c.args.frame.now) (length c.args.coefs.now) ≡ false = sym c.short_call.ensures ∙ c.if-short_call.false in
+    ended _ _ long (kept w32 _ c.code.type_inv ∙ c.code.ensures) c.core.ensures

@@ -7,19 +7,16 @@ use Rattle.layout.specs.Layout.{short_state}
 use Rattle.post.specs.Calls.{called}
 use Rattle.post.specs.Stages.{glue_call}
 use Rattle.post.proofs.Ends.{ended}
-use Rattle.post.proofs.post_glue.Goals.{Else-short_state}
 use Rattle.post.proofs.post_glue.Goals as goal
-
--- no slice is too short
-long : (c : Else-short_state) → let a = c.args in short_state (length a.words.now) (length a.halves.now) ≡ false
-long c = sym c.short_state.ensures ∙ c.if-short_state.false
 
 pub returns-then-short_state : goal.returns-then-short_state
 unfolding glue_call called
 returns-then-short_state c = rw (sym c.short_state.ensures ∙ c.if-short_state.true)
 
 pub glue-requires : goal.glue-requires
-glue-requires c = long c.before.before.before
+glue-requires c =
+    let long : short_state (length c.args.words.now) (length c.args.halves.now) ≡ false = sym c.short_state.ensures ∙ c.if-short_state.false in
+    long
 
 pub shape_of-words : goal.shape_of-words
 shape_of-words c = c.glue.auto.0
@@ -33,4 +30,5 @@ shape_of-buffer c = c.glue.auto.1.1.0
 pub returns : goal.returns
 unfolding glue_call
 returns c =
-    ended _ _ (long c.before.before.before.before.before.before.before.before) (kept w32 _ c.code.type_inv ∙ c.code.ensures) c.glue.ensures
+    let long : short_state (length c.args.words.now) (length c.args.halves.now) ≡ false = sym c.short_state.ensures ∙ c.if-short_state.false in
+    ended _ _ long (kept w32 _ c.code.type_inv ∙ c.code.ensures) c.glue.ensures

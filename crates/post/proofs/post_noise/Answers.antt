@@ -7,19 +7,16 @@ use Rattle.layout.specs.Frame.{short_frame}
 use Rattle.post.specs.Calls.{called}
 use Rattle.post.specs.Stages.{noise_call}
 use Rattle.post.proofs.Ends.{ended}
-use Rattle.post.proofs.post_noise.Goals.{Else-short_frame}
 use Rattle.post.proofs.post_noise.Goals as goal
-
--- no slice is too short
-long : (c : Else-short_frame) → let a = c.args in short_frame (length a.words.now) (length a.halves.now) (length a.frame.now) ≡ false
-long c = sym c.short_frame.ensures ∙ c.if-short_frame.false
 
 pub returns-then-short_frame : goal.returns-then-short_frame
 unfolding noise_call called
 returns-then-short_frame c = rw (sym c.short_frame.ensures ∙ c.if-short_frame.true)
 
 pub noise-requires : goal.noise-requires
-noise-requires c = long c.before.before.before
+noise-requires c =
+    let long : short_frame (length c.args.words.now) (length c.args.halves.now) (length c.args.frame.now) ≡ false = sym c.short_frame.ensures ∙ c.if-short_frame.false in
+    long
 
 pub shape_of-words : goal.shape_of-words
 shape_of-words c = c.noise.auto.0
@@ -33,4 +30,5 @@ shape_of-buffer c = c.noise.auto.1.1.1.0
 pub returns : goal.returns
 unfolding noise_call
 returns c =
-    ended _ _ (long c.before.before.before.before.before.before.before.before) (kept w32 _ c.code.type_inv ∙ c.code.ensures) c.noise.ensures
+    let long : short_frame (length c.args.words.now) (length c.args.halves.now) (length c.args.frame.now) ≡ false = sym c.short_frame.ensures ∙ c.if-short_frame.false in
+    ended _ _ long (kept w32 _ c.code.type_inv ∙ c.code.ensures) c.noise.ensures

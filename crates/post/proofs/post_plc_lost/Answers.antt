@@ -7,19 +7,16 @@ use Rattle.layout.specs.Frame.{short_frame}
 use Rattle.post.specs.Calls.{called}
 use Rattle.post.specs.Stages.{plc_lost_call}
 use Rattle.post.proofs.Ends.{ended}
-use Rattle.post.proofs.post_plc_lost.Goals.{Else-short_frame}
 use Rattle.post.proofs.post_plc_lost.Goals as goal
-
--- no slice is too short
-long : (c : Else-short_frame) → let a = c.args in short_frame (length a.words.now) (length a.halves.now) (length a.frame.now) ≡ false
-long c = sym c.short_frame.ensures ∙ c.if-short_frame.false
 
 pub returns-then-short_frame : goal.returns-then-short_frame
 unfolding plc_lost_call called
 returns-then-short_frame c = rw (sym c.short_frame.ensures ∙ c.if-short_frame.true)
 
 pub plc_lost-requires : goal.plc_lost-requires
-plc_lost-requires c = long c.before.before.before.before
+plc_lost-requires c =
+    let long : short_frame (length c.args.words.now) (length c.args.halves.now) (length c.args.frame.now) ≡ false = sym c.short_frame.ensures ∙ c.if-short_frame.false in
+    long
 
 pub shape_of-words : goal.shape_of-words
 shape_of-words c = c.plc_lost.auto.0
@@ -36,4 +33,5 @@ shape_of-output c = c.plc_lost.auto.1.1.1.0
 pub returns : goal.returns
 unfolding plc_lost_call
 returns c =
-    ended _ _ (long c.before.before.before.before.before.before.before.before.before.before) (kept w32 _ c.code.type_inv ∙ c.code.ensures) c.plc_lost.ensures
+    let long : short_frame (length c.args.words.now) (length c.args.halves.now) (length c.args.frame.now) ≡ false = sym c.short_frame.ensures ∙ c.if-short_frame.false in
+    ended _ _ long (kept w32 _ c.code.type_inv ∙ c.code.ensures) c.plc_lost.ensures

@@ -7,19 +7,16 @@ use Rattle.layout.specs.Frame.{short_call}
 use Rattle.post.specs.Calls.{called}
 use Rattle.post.specs.Stages.{plc_received_call}
 use Rattle.post.proofs.Ends.{ended}
-use Rattle.post.proofs.post_plc_received.Goals.{Else-short_call}
 use Rattle.post.proofs.post_plc_received.Goals as goal
-
--- no slice is too short
-long : (c : Else-short_call) → let a = c.args in short_call (length a.words.now) (length a.halves.now) (length a.frame.now) (length a.coefs.now) ≡ false
-long c = sym c.short_call.ensures ∙ c.if-short_call.false
 
 pub returns-then-short_call : goal.returns-then-short_call
 unfolding plc_received_call called
 returns-then-short_call c = rw (sym c.short_call.ensures ∙ c.if-short_call.true)
 
 pub plc_received-requires : goal.plc_received-requires
-plc_received-requires c = long c.before.before
+plc_received-requires c =
+    let long : short_call (length c.args.words.now) (length c.args.halves.now) (length c.args.frame.now) (length c.args.coefs.now) ≡ false = sym c.short_call.ensures ∙ c.if-short_call.false in
+    long
 
 pub shape_of-words : goal.shape_of-words
 shape_of-words c = c.plc_received.auto.0
@@ -30,4 +27,5 @@ shape_of-halves c = c.plc_received.auto.1.0
 pub returns : goal.returns
 unfolding plc_received_call
 returns c =
-    ended _ _ (long c.before.before.before.before.before.before) (kept w32 _ c.code.type_inv ∙ c.code.ensures) c.plc_received.ensures
+    let long : short_call (length c.args.words.now) (length c.args.halves.now) (length c.args.frame.now) (length c.args.coefs.now) ≡ false = sym c.short_call.ensures ∙ c.if-short_call.false in
+    ended _ _ long (kept w32 _ c.code.type_inv ∙ c.code.ensures) c.plc_received.ensures

@@ -11,19 +11,16 @@ use Rattle.stages.specs.Stages.{set_up_on}
 use Rattle.post.specs.Calls.{called}
 use Rattle.post.specs.Stages.{set_up_call}
 use Rattle.post.proofs.Ends.{ended}
-use Rattle.post.proofs.set_up.Goals.{Else-short_state}
 use Rattle.post.proofs.set_up.Goals as goal
-
--- no slice is too short
-long : (c : Else-short_state) → let a = c.args in short_state (length a.words.now) (length a.halves.now) ≡ false
-long c = sym c.short_state.ensures ∙ c.if-short_state.false
 
 pub returns-then-short_state : goal.returns-then-short_state
 unfolding set_up_call called
 returns-then-short_state c = rw (sym c.short_state.ensures ∙ c.if-short_state.true)
 
 pub set_up-requires : goal.set_up-requires
-set_up-requires c = long c.before.before
+set_up-requires c =
+    let long : short_state (length c.args.words.now) (length c.args.halves.now) ≡ false = sym c.short_state.ensures ∙ c.if-short_state.false in
+    long
 
 pub shape_of-words : goal.shape_of-words
 shape_of-words c = c.set_up.auto.1.1.1.0
@@ -34,5 +31,6 @@ shape_of-halves c = c.set_up.auto.1.1.1.1.0
 pub returns : goal.returns
 unfolding set_up_call
 returns c =
+    let long : short_state (length c.args.words.now) (length c.args.halves.now) ≡ false = sym c.short_state.ensures ∙ c.if-short_state.false in
     let a = c.args in
-    ended _ _ (long c.before.before.before.before.before.before) (kept w32 _ c.code.type_inv ∙ c.code.ensures) (c.set_up.ensures ∙ λ i. set_up_on (to_z-of_z c.ranges.rate i) (to_z-of_z c.ranges.subframes i) a.settings (slices a.words.now a.halves.now [] [] [] []))
+    ended _ _ long (kept w32 _ c.code.type_inv ∙ c.code.ensures) (c.set_up.ensures ∙ λ i. set_up_on (to_z-of_z c.ranges.rate i) (to_z-of_z c.ranges.subframes i) a.settings (slices a.words.now a.halves.now [] [] [] []))

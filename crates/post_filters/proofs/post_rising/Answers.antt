@@ -11,12 +11,7 @@ use Rattle.refusal.specs.Refusals.{refusal_number}
 use Rattle.announcement.specs.Rising.{rising_of}
 use Rattle.post_filters.specs.Calls.{called, rising_call}
 use Rattle.post_filters.proofs.Ends.{refused, accepted, set-one}
-use Rattle.post_filters.proofs.post_rising.Goals.{After-number}
 use Rattle.post_filters.proofs.post_rising.Goals as goal
-
--- the number of the refusal
-why : (c : After-number) → let s = c.args in c.number.result ≡ refusal_number (rising_of s.lines.now s.order).refusal
-why c = c.number.ensures ∙ ap (λ t. refusal_number t.refusal) c.rising_check-t.ensures
 
 pub returns-then-answer-lt1 : goal.returns-then-answer-lt1
 unfolding rising_call called
@@ -25,18 +20,20 @@ returns-then-answer-lt1 c = rw (lt-ltb (length c.args.answer.now) 1 c.if-answer-
 pub returns-then-number-ne0 : goal.returns-then-number-ne0
 unfolding rising_call
 returns-then-number-ne0 c =
+    let why : c.number.result ≡ refusal_number (rising_of c.args.lines.now c.args.order).refusal = c.number.ensures ∙ ap (λ t. refusal_number t.refusal) c.rising_check-t.ensures in
     let s = c.args in
     let u = rising_of s.lines.now s.order in
     let e = got w32 c.code.type_inv c.code.ensures ∙ ap (λ t. pos (refusal_number t.refusal)) c.rising_check-t.ensures in
     rw (le-ltb (length s.answer.now) 1 c.if-answer-lt1.false)
     ((λ i. record { answer = e i; slice = s.answer.now })
-    ∙ sym (refused u.refusal (cond u.rising (pos 1) (pos 0) ∷ []) s.answer.now (λ z. c.if-number-ne0.true (why c.before.before ∙ z))))
+    ∙ sym (refused u.refusal (cond u.rising (pos 1) (pos 0) ∷ []) s.answer.now (λ z. c.if-number-ne0.true (why ∙ z))))
 
 pub returns : goal.returns
 unfolding rising_call
 returns c =
+    let why : c.number.result ≡ refusal_number (rising_of c.args.lines.now c.args.order).refusal = c.number.ensures ∙ ap (λ t. refusal_number t.refusal) c.rising_check-t.ensures in
     let s = c.args in
     let u = rising_of s.lines.now s.order in
     let x = got w32 c.yes.type_inv c.yes.ensures ∙ ap (λ t. cond t.rising (pos 1) (pos 0)) c.rising_check-t.ensures in
     rw (le-ltb (length s.answer.now) 1 c.if-answer-lt1.false, x, set-one s.answer.now (cond u.rising (pos 1) (pos 0)) c.if-answer-lt1.false)
-    (sym (accepted u.refusal (cond u.rising (pos 1) (pos 0) ∷ []) s.answer.now (sym (why c.before.before) ∙ c.if-number-ne0.false)))
+    (sym (accepted u.refusal (cond u.rising (pos 1) (pos 0) ∷ []) s.answer.now (sym why ∙ c.if-number-ne0.false)))

@@ -11,18 +11,7 @@ use Rattle.stability.specs.Stability.{tested_under}
 use Rattle.sentence.specs.Sentence.{sentence_of}
 use Rattle.post_filters.specs.Calls.{called, sentence_call}
 use Rattle.post_filters.proofs.Ends.{refused, accepted}
-use Rattle.post_filters.proofs.post_sentence.Goals.{After-number, After-sentence_of-sentence, After-silk_lpc_inverse_pred_gain_under-t}
 use Rattle.post_filters.proofs.post_sentence.Goals as goal
-
--- the test's answer, and the number of its refusal
-answered : (c : After-silk_lpc_inverse_pred_gain_under-t) → let s = c.args in c.silk_lpc_inverse_pred_gain_under-t.result ≡ tested_under s.coefficients.now s.order s.edition
-answered c = rw (c.silk_lpc_inverse_pred_gain_under-t.ensures, to_z-of_z c.ranges.edition)
-
-why : (c : After-number) → let s = c.args in c.number.result ≡ refusal_number (tested_under s.coefficients.now s.order s.edition).refusal
-why c = c.number.ensures ∙ ap (λ t. refusal_number t.refusal) (answered c.before)
-
-letters-long : (c : After-sentence_of-sentence) → length c.sentence_of-sentence.result.letters ≡ 64
-letters-long c = search rules
 
 pub returns-then-text-lt64 : goal.returns-then-text-lt64
 unfolding sentence_call called
@@ -31,19 +20,24 @@ returns-then-text-lt64 c = rw (lt-ltb (length c.args.text.now) 64 c.if-text-lt64
 pub returns-then-number-ne0 : goal.returns-then-number-ne0
 unfolding sentence_call
 returns-then-number-ne0 c =
+    let answered : c.silk_lpc_inverse_pred_gain_under-t.result ≡ tested_under c.args.coefficients.now c.args.order c.args.edition = rw (c.silk_lpc_inverse_pred_gain_under-t.ensures, to_z-of_z c.ranges.edition) in
+    let why : c.number.result ≡ refusal_number (tested_under c.args.coefficients.now c.args.order c.args.edition).refusal = c.number.ensures ∙ ap (λ t. refusal_number t.refusal) answered in
     let s = c.args in
     let u = tested_under s.coefficients.now s.order s.edition in
-    let e = got w32 c.code.type_inv c.code.ensures ∙ ap (λ t. pos (refusal_number t.refusal)) (answered c.before.before.before) in
+    let e = got w32 c.code.type_inv c.code.ensures ∙ ap (λ t. pos (refusal_number t.refusal)) answered in
     rw (le-ltb (length s.text.now) 64 c.if-text-lt64.false)
     ((λ i. record { answer = e i; slice = s.text.now })
-    ∙ sym (refused u.refusal (sentence_of u.answer).letters s.text.now (λ z. c.if-number-ne0.true (why c.before.before ∙ z))))
+    ∙ sym (refused u.refusal (sentence_of u.answer).letters s.text.now (λ z. c.if-number-ne0.true (why ∙ z))))
 
 pub returns : goal.returns
 unfolding sentence_call
 returns c =
+    let answered : c.silk_lpc_inverse_pred_gain_under-t.result ≡ tested_under c.args.coefficients.now c.args.order c.args.edition = rw (c.silk_lpc_inverse_pred_gain_under-t.ensures, to_z-of_z c.ranges.edition) in
+    let why : c.number.result ≡ refusal_number (tested_under c.args.coefficients.now c.args.order c.args.edition).refusal = c.number.ensures ∙ ap (λ t. refusal_number t.refusal) answered in
+    let letters-long : length c.sentence_of-sentence.result.letters ≡ 64 = search rules in
     let s = c.args in
     let u = tested_under s.coefficients.now s.order s.edition in
-    let e = ap (λ x. x.letters) (c.sentence_of-sentence.ensures ∙ ap (λ t. sentence_of t.answer) (answered c.before.before.before.before.before.before.before.before)) in
-    let m : length (sentence_of u.answer).letters ≡ 64 = sym (ap length e) ∙ letters-long c.before.before.before.before.before in
+    let e = ap (λ x. x.letters) (c.sentence_of-sentence.ensures ∙ ap (λ t. sentence_of t.answer) answered) in
+    let m : length (sentence_of u.answer).letters ≡ 64 = sym (ap length e) ∙ letters-long in
     rw (le-ltb (length s.text.now) 64 c.if-text-lt64.false, c.put_letters.ensures, e)
-    (sym (accepted u.refusal (sentence_of u.answer).letters s.text.now (sym (why c.before.before.before.before.before.before.before) ∙ c.if-number-ne0.false) ∙ rw m refl))
+    (sym (accepted u.refusal (sentence_of u.answer).letters s.text.now (sym why ∙ c.if-number-ne0.false) ∙ rw m refl))

@@ -10,32 +10,37 @@ use Rattle.layout.specs.Layout.{WORDS, HALVES}
 use Rattle.layout.specs.Frame.{FRAME, COEFS}
 use Rattle.layout.proofs.Slices.{call_long}
 use Rattle.slices.specs.Whole.{refusal_in}
-use Rattle.slices.proofs.frame_refusal.Goals.{Start}
 use Rattle.slices.proofs.frame_refusal.Goals as goal
 
--- the lengths of the slices
-long : (c : Start) → let a = c.args in (WORDS ≤ length a.words.now) × (HALVES ≤ length a.halves.now) × (FRAME ≤ length a.frame.now) × (COEFS ≤ length a.coefs.now)
-long c =
-    let a = c.args in
-    call_long (length a.words.now) (length a.halves.now) (length a.frame.now) (length a.coefs.now) c.requires
-
 pub state_in-s-requires : goal.state_in-s-requires
-state_in-s-requires c = let l = long c in (l.0, l.1)
+state_in-s-requires c =
+    let long : (WORDS ≤ length c.args.words.now) × (HALVES ≤ length c.args.halves.now) × (FRAME ≤ length c.args.frame.now) × (COEFS ≤ length c.args.coefs.now) = call_long (length c.args.words.now) (length c.args.halves.now) (length c.args.frame.now) (length c.args.coefs.now) c.requires in
+    let l = long in (l.0, l.1)
 
 pub frame_in-f-requires : goal.frame_in-f-requires
-frame_in-f-requires c = (long c.before).2
+frame_in-f-requires c =
+    let long : (WORDS ≤ length c.args.words.now) × (HALVES ≤ length c.args.halves.now) × (FRAME ≤ length c.args.frame.now) × (COEFS ≤ length c.args.coefs.now) = call_long (length c.args.words.now) (length c.args.halves.now) (length c.args.frame.now) (length c.args.coefs.now) c.requires in
+    long.2
 
 pub control_in-c-requires : goal.control_in-c-requires
-control_in-c-requires c = let l = long c.before.before in (l.2, omega (arith, l.3))
+control_in-c-requires c =
+    let long : (WORDS ≤ length c.args.words.now) × (HALVES ≤ length c.args.halves.now) × (FRAME ≤ length c.args.frame.now) × (COEFS ≤ length c.args.coefs.now) = call_long (length c.args.words.now) (length c.args.halves.now) (length c.args.frame.now) (length c.args.coefs.now) c.requires in
+    let l = long in (l.2, omega (arith, l.3))
 
 pub lines_in-lines-requires : goal.lines_in-lines-requires
-lines_in-lines-requires c = (long c.before.before.before).3
+lines_in-lines-requires c =
+    let long : (WORDS ≤ length c.args.words.now) × (HALVES ≤ length c.args.halves.now) × (FRAME ≤ length c.args.frame.now) × (COEFS ≤ length c.args.coefs.now) = call_long (length c.args.words.now) (length c.args.halves.now) (length c.args.frame.now) (length c.args.coefs.now) c.requires in
+    long.3
 
 pub rate_in-rate-requires : goal.rate_in-rate-requires
-rate_in-rate-requires c = (long c.before.before.before.before).2
+rate_in-rate-requires c =
+    let long : (WORDS ≤ length c.args.words.now) × (HALVES ≤ length c.args.halves.now) × (FRAME ≤ length c.args.frame.now) × (COEFS ≤ length c.args.coefs.now) = call_long (length c.args.words.now) (length c.args.halves.now) (length c.args.frame.now) (length c.args.coefs.now) c.requires in
+    long.2
 
 pub subframes_in-subframes-requires : goal.subframes_in-subframes-requires
-subframes_in-subframes-requires c = (long c.before.before.before.before.before).2
+subframes_in-subframes-requires c =
+    let long : (WORDS ≤ length c.args.words.now) × (HALVES ≤ length c.args.halves.now) × (FRAME ≤ length c.args.frame.now) × (COEFS ≤ length c.args.coefs.now) = call_long (length c.args.words.now) (length c.args.halves.now) (length c.args.frame.now) (length c.args.coefs.now) c.requires in
+    long.2
 
 pub returns : goal.returns
 unfolding refusal_in

@@ -12,41 +12,52 @@ use Rattle.layout.specs.Frame.{FRAME, COEFS, rate_in, subframes_in, control_in, 
 use Rattle.layout.proofs.Slices.{call_long}
 use Rattle.slices.specs.Whole.{played_on, answered}
 use Rattle.slices.proofs.Ends.{again, control_ended}
-use Rattle.slices.proofs.received.Goals.{Start}
 use Rattle.slices.proofs.received.Goals as goal
 
--- the lengths of the slices
-long : (c : Start) → let a = c.args in (WORDS ≤ length a.words.now) × (HALVES ≤ length a.halves.now) × (FRAME ≤ length a.frame.now) × (COEFS ≤ length a.coefs.now)
-long c =
-    let a = c.args in
-    call_long (length a.words.now) (length a.halves.now) (length a.frame.now) (length a.coefs.now) c.requires
-
 pub state_in-s-requires : goal.state_in-s-requires
-state_in-s-requires c = let l = long c.before.before in (l.0, l.1)
+state_in-s-requires c =
+    let long : (WORDS ≤ length c.args.words.now) × (HALVES ≤ length c.args.halves.now) × (FRAME ≤ length c.args.frame.now) × (COEFS ≤ length c.args.coefs.now) = call_long (length c.args.words.now) (length c.args.halves.now) (length c.args.frame.now) (length c.args.coefs.now) c.requires in
+    let l = long in (l.0, l.1)
 
 pub control_in-c-requires : goal.control_in-c-requires
-control_in-c-requires c = let l = long c.before.before.before.before.before in (l.2, omega (arith, l.3))
+control_in-c-requires c =
+    let long : (WORDS ≤ length c.args.words.now) × (HALVES ≤ length c.args.halves.now) × (FRAME ≤ length c.args.frame.now) × (COEFS ≤ length c.args.coefs.now) = call_long (length c.args.words.now) (length c.args.halves.now) (length c.args.frame.now) (length c.args.coefs.now) c.requires in
+    let l = long in (l.2, omega (arith, l.3))
 
 pub rows_in-rows-requires : goal.rows_in-rows-requires
-rows_in-rows-requires c = (long c.before.before.before.before.before.before.before).3
+rows_in-rows-requires c =
+    let long : (WORDS ≤ length c.args.words.now) × (HALVES ≤ length c.args.halves.now) × (FRAME ≤ length c.args.frame.now) × (COEFS ≤ length c.args.coefs.now) = call_long (length c.args.words.now) (length c.args.halves.now) (length c.args.frame.now) (length c.args.coefs.now) c.requires in
+    long.3
 
 pub lines_in-lines-requires : goal.lines_in-lines-requires
-lines_in-lines-requires c = (long c.before.before.before.before.before.before.before.before.before).3
+lines_in-lines-requires c =
+    let long : (WORDS ≤ length c.args.words.now) × (HALVES ≤ length c.args.halves.now) × (FRAME ≤ length c.args.frame.now) × (COEFS ≤ length c.args.coefs.now) = call_long (length c.args.words.now) (length c.args.halves.now) (length c.args.frame.now) (length c.args.coefs.now) c.requires in
+    long.3
 
 pub rate_in-rate-requires : goal.rate_in-rate-requires
-rate_in-rate-requires c = (long c.before.before.before.before.before.before.before.before.before.before.before).2
+rate_in-rate-requires c =
+    let long : (WORDS ≤ length c.args.words.now) × (HALVES ≤ length c.args.halves.now) × (FRAME ≤ length c.args.frame.now) × (COEFS ≤ length c.args.coefs.now) = call_long (length c.args.words.now) (length c.args.halves.now) (length c.args.frame.now) (length c.args.coefs.now) c.requires in
+    long.2
 
 pub subframes_in-subframes-requires : goal.subframes_in-subframes-requires
-subframes_in-subframes-requires c = (long c.before.before.before.before.before.before.before.before.before.before.before.before.before).2
+subframes_in-subframes-requires c =
+    let long : (WORDS ≤ length c.args.words.now) × (HALVES ≤ length c.args.halves.now) × (FRAME ≤ length c.args.frame.now) × (COEFS ≤ length c.args.coefs.now) = call_long (length c.args.words.now) (length c.args.halves.now) (length c.args.frame.now) (length c.args.coefs.now) c.requires in
+    long.2
 
 pub keep_state-requires : goal.keep_state-requires
-keep_state-requires c = let l = long c.before.before.before.before.before.before.before.before.before.before.before.before.before.before.before.before.before.before.before.before.before in (l.0, l.1)
+keep_state-requires c =
+    let long : (WORDS ≤ length c.args.words.now) × (HALVES ≤ length c.args.halves.now) × (FRAME ≤ length c.args.frame.now) × (COEFS ≤ length c.args.coefs.now) = call_long (length c.args.words.now) (length c.args.halves.now) (length c.args.frame.now) (length c.args.coefs.now) c.requires in
+    let l = long in (l.0, l.1)
 
 pub keep_lags-requires : goal.keep_lags-requires
-keep_lags-requires c = (long c.before.before.before.before.before.before.before.before.before.before.before.before.before.before.before.before.before.before.before.before.before.before.before.before.before).2
+keep_lags-requires c =
+    let long : (WORDS ≤ length c.args.words.now) × (HALVES ≤ length c.args.halves.now) × (FRAME ≤ length c.args.frame.now) × (COEFS ≤ length c.args.coefs.now) = call_long (length c.args.words.now) (length c.args.halves.now) (length c.args.frame.now) (length c.args.coefs.now) c.requires in
+    long.2
 
 pub keep_taps-requires : goal.keep_taps-requires
-keep_taps-requires c = (long c.before.before.before.before.before.before.before.before.before.before.before.before.before.before.before.before.before.before.before.before.before.before.before.before.before.before.before.before).3
+keep_taps-requires c =
+    let long : (WORDS ≤ length c.args.words.now) × (HALVES ≤ length c.args.halves.now) × (FRAME ≤ length c.args.frame.now) × (COEFS ≤ length c.args.coefs.now) = call_long (length c.args.words.now) (length c.args.halves.now) (length c.args.frame.now) (length c.args.coefs.now) c.requires in
+    long.3
 
 pub shape_of-words : goal.shape_of-words
 shape_of-words c = c.keep_state.auto.1.1.0

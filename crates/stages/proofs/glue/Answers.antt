@@ -6,20 +6,17 @@ use Rattle.layout.specs.Layout.{WORDS, HALVES, state_in}
 use Rattle.layout.proofs.Slices.{state_long}
 use Rattle.slices.proofs.Ends.{again, state_ended}
 use Rattle.stages.specs.Stages.{glue_on}
-use Rattle.stages.proofs.glue.Goals.{Start}
 use Rattle.stages.proofs.glue.Goals as goal
 
--- the lengths of the slices
-long : (c : Start) → let a = c.args in (WORDS ≤ length a.words.now) × (HALVES ≤ length a.halves.now)
-long c =
-    let a = c.args in
-    state_long (length a.words.now) (length a.halves.now) c.requires
-
 pub state_in-s-requires : goal.state_in-s-requires
-state_in-s-requires c = let l = long c.before.before in (l.0, l.1)
+state_in-s-requires c =
+    let long : (WORDS ≤ length c.args.words.now) × (HALVES ≤ length c.args.halves.now) = state_long (length c.args.words.now) (length c.args.halves.now) c.requires in
+    let l = long in (l.0, l.1)
 
 pub keep_state-requires : goal.keep_state-requires
-keep_state-requires c = let l = long c.before.before.before.before.before.before.before.before.before in (l.0, l.1)
+keep_state-requires c =
+    let long : (WORDS ≤ length c.args.words.now) × (HALVES ≤ length c.args.halves.now) = state_long (length c.args.words.now) (length c.args.halves.now) c.requires in
+    let l = long in (l.0, l.1)
 
 pub shape_of-words : goal.shape_of-words
 shape_of-words c = c.keep_state.auto.1.1.0

@@ -11,26 +11,27 @@ use Rattle.layout.proofs.Slices.{frame-long}
 use Rattle.slices.specs.Slices.{slices}
 use Rattle.slices.proofs.Ends.{same, again, ended}
 use Rattle.stages.specs.Stages.{plc_lost_on}
-use Rattle.stages.proofs.plc_lost.Goals.{Start}
 use Rattle.stages.proofs.plc_lost.Goals as goal
 
--- the lengths of the slices
-long : (c : Start) → let a = c.args in (WORDS ≤ length a.words.now) × (HALVES ≤ length a.halves.now) × (FRAME ≤ length a.frame.now)
-long c =
-    let a = c.args in
-    frame-long (length a.words.now) (length a.halves.now) (length a.frame.now) c.requires
-
 pub state_in-s-requires : goal.state_in-s-requires
-state_in-s-requires c = let l = long c.before.before in (l.0, l.1)
+state_in-s-requires c =
+    let long : (WORDS ≤ length c.args.words.now) × (HALVES ≤ length c.args.halves.now) × (FRAME ≤ length c.args.frame.now) = frame-long (length c.args.words.now) (length c.args.halves.now) (length c.args.frame.now) c.requires in
+    let l = long in (l.0, l.1)
 
 pub tapless-c-requires : goal.tapless-c-requires
-tapless-c-requires c = (long c.before.before.before.before).2
+tapless-c-requires c =
+    let long : (WORDS ≤ length c.args.words.now) × (HALVES ≤ length c.args.halves.now) × (FRAME ≤ length c.args.frame.now) = frame-long (length c.args.words.now) (length c.args.halves.now) (length c.args.frame.now) c.requires in
+    long.2
 
 pub keep_state-requires : goal.keep_state-requires
-keep_state-requires c = let l = long c.before.before.before.before.before.before.before.before.before.before.before.before in (l.0, l.1)
+keep_state-requires c =
+    let long : (WORDS ≤ length c.args.words.now) × (HALVES ≤ length c.args.halves.now) × (FRAME ≤ length c.args.frame.now) = frame-long (length c.args.words.now) (length c.args.halves.now) (length c.args.frame.now) c.requires in
+    let l = long in (l.0, l.1)
 
 pub keep_lags-requires : goal.keep_lags-requires
-keep_lags-requires c = (long c.before.before.before.before.before.before.before.before.before.before.before.before.before.before.before.before).2
+keep_lags-requires c =
+    let long : (WORDS ≤ length c.args.words.now) × (HALVES ≤ length c.args.halves.now) × (FRAME ≤ length c.args.frame.now) = frame-long (length c.args.words.now) (length c.args.halves.now) (length c.args.frame.now) c.requires in
+    long.2
 
 pub shape_of-words : goal.shape_of-words
 shape_of-words c = c.keep_state.auto.1.1.0

@@ -8,29 +8,32 @@ use Rattle.layout.specs.Frame.{FRAME, COEFS, params_in, control_in, rows_in}
 use Rattle.layout.proofs.Slices.{call_long}
 use Rattle.slices.proofs.Ends.{same, state_ended}
 use Rattle.stages.specs.Stages.{plc_received_on}
-use Rattle.stages.proofs.plc_received.Goals.{Start}
 use Rattle.stages.proofs.plc_received.Goals as goal
 
--- the lengths of the slices
-long : (c : Start) → let a = c.args in (WORDS ≤ length a.words.now) × (HALVES ≤ length a.halves.now) × (FRAME ≤ length a.frame.now) × (COEFS ≤ length a.coefs.now)
-long c =
-    let a = c.args in
-    call_long (length a.words.now) (length a.halves.now) (length a.frame.now) (length a.coefs.now) c.requires
-
 pub state_in-s-requires : goal.state_in-s-requires
-state_in-s-requires c = let l = long c.before.before in (l.0, l.1)
+state_in-s-requires c =
+    let long : (WORDS ≤ length c.args.words.now) × (HALVES ≤ length c.args.halves.now) × (FRAME ≤ length c.args.frame.now) × (COEFS ≤ length c.args.coefs.now) = call_long (length c.args.words.now) (length c.args.halves.now) (length c.args.frame.now) (length c.args.coefs.now) c.requires in
+    let l = long in (l.0, l.1)
 
 pub params_in-q-requires : goal.params_in-q-requires
-params_in-q-requires c = (long c.before.before.before).2
+params_in-q-requires c =
+    let long : (WORDS ≤ length c.args.words.now) × (HALVES ≤ length c.args.halves.now) × (FRAME ≤ length c.args.frame.now) × (COEFS ≤ length c.args.coefs.now) = call_long (length c.args.words.now) (length c.args.halves.now) (length c.args.frame.now) (length c.args.coefs.now) c.requires in
+    long.2
 
 pub control_in-c-requires : goal.control_in-c-requires
-control_in-c-requires c = let l = long c.before.before.before.before in (l.2, omega (arith, l.3))
+control_in-c-requires c =
+    let long : (WORDS ≤ length c.args.words.now) × (HALVES ≤ length c.args.halves.now) × (FRAME ≤ length c.args.frame.now) × (COEFS ≤ length c.args.coefs.now) = call_long (length c.args.words.now) (length c.args.halves.now) (length c.args.frame.now) (length c.args.coefs.now) c.requires in
+    let l = long in (l.2, omega (arith, l.3))
 
 pub rows_in-rows-requires : goal.rows_in-rows-requires
-rows_in-rows-requires c = (long c.before.before.before.before.before).3
+rows_in-rows-requires c =
+    let long : (WORDS ≤ length c.args.words.now) × (HALVES ≤ length c.args.halves.now) × (FRAME ≤ length c.args.frame.now) × (COEFS ≤ length c.args.coefs.now) = call_long (length c.args.words.now) (length c.args.halves.now) (length c.args.frame.now) (length c.args.coefs.now) c.requires in
+    long.3
 
 pub keep_state-requires : goal.keep_state-requires
-keep_state-requires c = let l = long c.before.before.before.before.before.before.before.before.before.before in (l.0, l.1)
+keep_state-requires c =
+    let long : (WORDS ≤ length c.args.words.now) × (HALVES ≤ length c.args.halves.now) × (FRAME ≤ length c.args.frame.now) × (COEFS ≤ length c.args.coefs.now) = call_long (length c.args.words.now) (length c.args.halves.now) (length c.args.frame.now) (length c.args.coefs.now) c.requires in
+    let l = long in (l.0, l.1)
 
 pub shape_of-words : goal.shape_of-words
 shape_of-words c = c.keep_state.auto.1.1.0
