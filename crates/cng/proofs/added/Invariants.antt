@@ -23,7 +23,7 @@ sample frame signal gain i = sat16 (get_or frame i (pos 0) +ℤ played_q10 gain 
 abbrev pub invariant-loop-i : goal.invariant-loop-i
 invariant-loop-i l =
     (l.i ≤ l.i-end) × (l.i-end ≡ length l.initial.frame) × (length l.frame ≡ length l.initial.frame)
-    × (l.frame ≡ tabulate l.i (sample l.initial.frame l.signal (to_z w32 l.gain_q10)) ++ drop l.i l.initial.frame)
+    × (l.frame ≡ tabulate l.i (sample l.initial.frame l.signal l.gain_q10) ++ drop l.i l.initial.frame)
 
 abbrev pub decreases-loop-i : goal.decreases-loop-i
 decreases-loop-i l = l.i-end - l.i

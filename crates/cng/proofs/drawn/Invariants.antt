@@ -22,8 +22,8 @@ value exc mask seed i = get_or exc (mod_ℤ (floor_div (seed_at seed (suc i)) (2
 
 abbrev pub invariant-loop-i : goal.invariant-loop-i
 invariant-loop-i l =
-    (l.i ≤ l.i-end) × (l.i-end ≡ length l.initial.out) × (length l.out ≡ length l.initial.out) × (to_z w32 l.s ≡ seed_at (to_z w32 l.seed) l.i)
-    × (l.out ≡ tabulate l.i (value l.exc l.mask (to_z w32 l.seed)) ++ drop l.i l.initial.out)
+    (l.i ≤ l.i-end) × (l.i-end ≡ length l.initial.out) × (length l.out ≡ length l.initial.out) × (l.s ≡ seed_at l.seed l.i)
+    × (l.out ≡ tabulate l.i (value l.exc l.mask l.seed) ++ drop l.i l.initial.out)
 
 abbrev pub decreases-loop-i : goal.decreases-loop-i
 decreases-loop-i l = l.i-end - l.i

@@ -21,7 +21,7 @@ loop-i-preserved c =
     let s = c.args in (
       search rules,
       search rules,
-      rw (got w16 c.Flat-line.type_inv c.Flat-line.ensures, c.loop-i.invariant.2, add-one)
+      rw (got w16 c.flat_line.type_inv c.flat_line.ensures, c.loop-i.invariant.2, add-one)
           (tabulate-more s.held (flat_line s.d) c.loop-i.i (search rules)),
     )
 

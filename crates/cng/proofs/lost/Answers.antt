@@ -6,22 +6,20 @@ use Rattle.shape.proofs.Shapes.{rates, order_two}
 use Rattle.decoder.proofs.Bounds.{cng_bounds}
 use Rattle.cng.specs.Noise.{cng_ready}
 use Rattle.cng.proofs.Lines.{none_negative, ready_held}
-use Rattle.cng.proofs.lost.Goals.{After-lpc_order-d, After-ready-h}
 use Rattle.cng.proofs.lost.Goals as goal
-
-order : (c : After-lpc_order-d) → c.lpc_order-d.result ≡ order_of (rate_of c.args.khz)
-order c = c.lpc_order-d.ensures ∙ ap (λ k. order_of (rate_of k)) (to_z-of_z c.ranges.khz)
-
-at_rate : (c : After-ready-h) → let a = c.args in c.ready-h.result ≡ cng_ready (rate_of a.khz) a.held
-at_rate c = rw (c.ready-h.ensures, to_z-of_z c.ranges.khz)
 
 pub noise-requires : goal.noise-requires
 noise-requires c =
+    let order : c.lpc_order-d.result ≡ order_of (rate_of c.args.khz) = c.lpc_order-d.ensures ∙ ap (λ k. order_of (rate_of k)) (to_z-of_z c.ranges.khz) in
+    let at_rate : c.ready-h.result ≡ cng_ready (rate_of c.args.khz) c.args.held = rw (c.ready-h.ensures, to_z-of_z c.ranges.khz) in
     let b = cng_bounds (rate_of c.args.khz) c.args.held c.requires.1 in
-    rw (order c.before.before, at_rate c.before) (c.requires.2, order_two (rates c.args.khz c.requires.0), none_negative _ _ (ready_held _ _ b).cng_smth_nlsf_q15)
+    rw (order, at_rate) (c.requires.2, order_two (rates c.args.khz c.requires.0), none_negative _ _ (ready_held _ _ b).cng_smth_nlsf_q15)
 
 pub returns : goal.returns
-returns c = (
-  rw (c.noise.ensures.0, order c.before.before.before.before, at_rate c.before.before.before, to_z-of_z c.ranges.edition),
-  rw (c.noise.ensures.1, order c.before.before.before.before, at_rate c.before.before.before, to_z-of_z c.ranges.edition, to_z-of_z c.ranges.scale, to_z-of_z c.ranges.last),
+returns c =
+    let order : c.lpc_order-d.result ≡ order_of (rate_of c.args.khz) = c.lpc_order-d.ensures ∙ ap (λ k. order_of (rate_of k)) (to_z-of_z c.ranges.khz) in
+    let at_rate : c.ready-h.result ≡ cng_ready (rate_of c.args.khz) c.args.held = rw (c.ready-h.ensures, to_z-of_z c.ranges.khz) in
+    (
+  rw (c.noise.ensures.0, order, at_rate, to_z-of_z c.ranges.edition),
+  rw (c.noise.ensures.1, order, at_rate, to_z-of_z c.ranges.edition, to_z-of_z c.ranges.scale, to_z-of_z c.ranges.last),
 )

@@ -5,26 +5,21 @@ use lib.ListN.{length, take}
 use lib.Seq.{length-take-le}
 use mir.Facts.{to_z-of_z}
 use Rattle.nlsf.proofs.Polynomials.{order_even}
-use Rattle.cng.proofs.noise_filter.Goals.{After-zeros16-a}
 use Rattle.cng.proofs.noise_filter.Goals as goal
-
--- the part of the array that the coefficients fill
-part : (c : After-zeros16-a) → let d = c.args.d in length (take d c.zeros16-a.result) ≡ d
-part c =
-    let o = order_even c.requires.0 in
-    let n : length c.zeros16-a.result ≡ 16 = search rules in
-    length-take-le _ _ (omega arith)
 
 pub slice_bounds-a-end : goal.slice_bounds-a-end
 slice_bounds-a-end c = let o = order_even c.requires.0 in search rules
 
 pub slice_bounds-nlsf2a-end : goal.slice_bounds-nlsf2a-end
-slice_bounds-nlsf2a-end c = sym (part c.before)
+slice_bounds-nlsf2a-end c =
+    let part : length (take c.args.d c.zeros16-a.result) ≡ c.args.d = let o = order_even c.requires.0 in let n : length c.zeros16-a.result ≡ 16 = search rules in length-take-le _ _ (omega arith) in
+    sym part
 
 pub nlsf2a-requires : goal.nlsf2a-requires
 nlsf2a-requires c =
+    let part : length (take c.args.d c.zeros16-a.result) ≡ c.args.d = let o = order_even c.requires.0 in let n : length c.zeros16-a.result ≡ 16 = search rules in length-take-le _ _ (omega arith) in
     let o = order_even c.requires.0 in
-    (c.requires.0, part c.before.before, search rules, c.requires.1)
+    (c.requires.0, part, search rules, c.requires.1)
 
 pub returns : goal.returns
 returns c =

@@ -14,22 +14,19 @@ use Rattle.nlsf.specs.Filter.{nlsf2a}
 use Rattle.nlsf.proofs.Results.{length-nlsf2a}
 use Rattle.cng.specs.Noise.{exc_mask, drawn, noise_filter, noise_signal}
 use Rattle.cng.proofs.Signals.{loaded, signal, length-drawn}
-use Rattle.cng.proofs.noise_signal.Goals.{Start}
 use Rattle.cng.proofs.noise_signal.Goals as goal
-
--- the memory has 16 places
-sixteen : (s : Start) → length s.args.t2.cng_synth_state ≡ 16
-sixteen s = search rules
 
 pub copy32_at-requires : goal.copy32_at-requires
 copy32_at-requires c =
-    let n = sixteen c.before.before.before.before.before in
+    let sixteen : length c.args.h.cng_synth_state ≡ 16 = search rules in
+    let n = sixteen in
     omega (arith, c.requires.0)
 
 pub returns : goal.returns
 unfolding noise_filter noise_signal
 returns c =
-    let h = c.args.t2 in
+    let sixteen : length c.args.h.cng_synth_state ≡ 16 = search rules in
+    let h = c.args.h in
     let buf = c.args.buf.now in
     let n = length buf - 16 in
     let exc = drawn h.cng_exc_buf_q14 (exc_mask n) h.rand_seed n in
@@ -38,8 +35,8 @@ returns c =
     let l : length (take n (drop 16 c.copy32_at.new.0)) ≡ n = length-take-le n (drop 16 c.copy32_at.new.0) (rw length-drop (omega (arith, c.copy32_at.auto))) in
     let e : c.drawn-seed.new.0 ≡ exc = rw (c.drawn-seed.ensures.1, c.exc_mask.ensures.0, l, z) in
     let b : put_mid 16 n c.copy32_at.new.0 c.drawn-seed.new.0 ≡ h.cng_synth_state ++ exc =
-    rw (e, c.copy32_at.ensures) (loaded buf h.cng_synth_state exc (sixteen c.before.before.before.before.before.before.before.before.before.before.before.before.before.before.before.before.before.before) c.requires.0 (length-drawn _ _ _ n)) in (
+    rw (e, c.copy32_at.ensures) (loaded buf h.cng_synth_state exc sixteen c.requires.0 (length-drawn _ _ _ n)) in (
       rw (got w32 c.drawn-seed.type_inv c.drawn-seed.ensures.0, l, z),
       rw (c.synthesis.ensures, c.noise_filter-a.ensures, to_z-of_z c.ranges.edition, b)
-          (signal h.cng_synth_state exc a (drop c.args.d (replicate 16 (pos 0))) c.args.d n (sixteen c.before.before.before.before.before.before.before.before.before.before.before.before.before.before.before.before.before.before) (length-drawn _ _ _ n) (length-nlsf2a _ _ _)),
+          (signal h.cng_synth_state exc a (drop c.args.d (replicate 16 (pos 0))) c.args.d n sixteen (length-drawn _ _ _ n) (length-nlsf2a _ _ _)),
     )

@@ -3,15 +3,14 @@ use borrow.Author.Rules.{rules}
 use mir.Facts.{to_z-of_z}
 use Rattle.shape.specs.Shape.{order_of, rate_of}
 use Rattle.shape.proofs.Shapes.{order_le}
-use Rattle.cng.proofs.received.Goals.{After-lpc_order-d}
 use Rattle.cng.proofs.received.Goals as goal
 
-order : (c : After-lpc_order-d) → c.lpc_order-d.result ≡ order_of (rate_of c.args.khz)
-order c = c.lpc_order-d.ensures ∙ ap (λ k. order_of (rate_of k)) (to_z-of_z c.ranges.khz)
-
 pub silenced-requires : goal.silenced-requires
-silenced-requires c = rw (order c.before.before) (order_le _)
+silenced-requires c =
+    let order : c.lpc_order-d.result ≡ order_of (rate_of c.args.khz) = c.lpc_order-d.ensures ∙ ap (λ k. order_of (rate_of k)) (to_z-of_z c.ranges.khz) in
+    rw order (order_le _)
 
 pub returns : goal.returns
 returns c =
-    rw (c.silenced.ensures, order c.before.before.before, c.followed.ensures, c.ready-h.ensures, to_z-of_z c.ranges.khz, to_z-of_z c.ranges.nb_subfr, to_z-of_z c.ranges.signal_type)
+    let order : c.lpc_order-d.result ≡ order_of (rate_of c.args.khz) = c.lpc_order-d.ensures ∙ ap (λ k. order_of (rate_of k)) (to_z-of_z c.ranges.khz) in
+    rw (c.silenced.ensures, order, c.followed.ensures, c.ready-h.ensures, to_z-of_z c.ranges.khz, to_z-of_z c.ranges.nb_subfr, to_z-of_z c.ranges.signal_type)

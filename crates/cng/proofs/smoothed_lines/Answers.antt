@@ -23,8 +23,8 @@ loop-i-preserved c =
     let s = c.args in (
       search rules,
       search rules,
-      rw (got w16 c.smoothed_line.type_inv c.smoothed_line.ensures, kept w16 (get_or s.t1 c.loop-i.i (pos 0)) c.smoothed_line-arg-1.given, kept w16 (get_or s.t2 c.loop-i.i (pos 0)) c.smoothed_line-arg-in-loop-i-1.given, c.loop-i.invariant.2, add-one)
-          (tabulate-more s.t1 (line s.t1 s.t2) c.loop-i.i (search rules)),
+      rw (got w16 c.smoothed_line.type_inv c.smoothed_line.ensures, kept w16 (get_or s.held c.loop-i.i (pos 0)) c.smoothed_line-arg-1.given, kept w16 (get_or s.lines c.loop-i.i (pos 0)) c.smoothed_line-arg-in-loop-i-1.given, c.loop-i.invariant.2, add-one)
+          (tabulate-more s.held (line s.held s.lines) c.loop-i.i (search rules)),
     )
 
 pub returns : goal.returns

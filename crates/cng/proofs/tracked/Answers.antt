@@ -9,37 +9,36 @@ use Rattle.shape.specs.Shape.{rate_of, count_of}
 use Rattle.shape.proofs.Shapes.{Shaped, shaped, order_le}
 use Rattle.cng.specs.Noise.{loudest, tracked}
 use Rattle.cng.proofs.Places.{place_lt}
-use Rattle.cng.proofs.tracked.Goals.{After-count_of-n, Start}
 use Rattle.cng.proofs.tracked.Goals as goal
-
-bounds : (s : Start) → Shaped (rate_of s.args.khz) (count_of s.args.nb_subfr)
-bounds s = shaped s.args.khz s.args.nb_subfr s.requires.0 s.requires.1
-
--- the count of subframes
-count : (c : After-count_of-n) → c.count_of-n.result ≡ count_of c.args.nb_subfr
-count c = c.count_of-n.ensures ∙ ap count_of (to_z-of_z c.ranges.nb_subfr)
 
 pub loudest-requires : goal.loudest-requires
 loudest-requires c =
-    omega (arith, count c.before.before.before, (bounds c.before.before.before.before).count_high)
+    let bounds : Shaped (rate_of c.args.khz) (count_of c.args.nb_subfr) = shaped c.args.khz c.args.nb_subfr c.requires.0 c.requires.1 in
+    let count : c.count_of-n.result ≡ count_of c.args.nb_subfr = c.count_of-n.ensures ∙ ap count_of (to_z-of_z c.ranges.nb_subfr) in
+    omega (arith, count, bounds.count_high)
 
 pub moved_in-moved-requires : goal.moved_in-moved-requires
 moved_in-moved-requires c =
-    let b = bounds c.before.before.before.before.before in
+    let bounds : Shaped (rate_of c.args.khz) (count_of c.args.nb_subfr) = shaped c.args.khz c.args.nb_subfr c.requires.0 c.requires.1 in
+    let count : c.count_of-n.result ≡ count_of c.args.nb_subfr = c.count_of-n.ensures ∙ ap count_of (to_z-of_z c.ranges.nb_subfr) in
+    let b = bounds in
     let e : c.subfr_length.result ≡ 5 * rate_of c.args.khz = rw (c.subfr_length.ensures, to_z-of_z c.ranges.khz) in
-    let p : c.loudest.result < c.count_of-n.result = rw c.loudest.ensures (place_lt _ _ (omega (arith, count c.before.before.before.before, b.count_low))) in
-    (omega (arith, b.rate_high), omega (arith, count c.before.before.before.before, b.count_high), p)
+    let p : c.loudest.result < c.count_of-n.result = rw c.loudest.ensures (place_lt _ _ (omega (arith, count, b.count_low))) in
+    (omega (arith, b.rate_high), omega (arith, count, b.count_high), p)
 
 pub smoothed_lines-smoothed-requires : goal.smoothed_lines-smoothed-requires
 smoothed_lines-smoothed-requires c = rw c.lpc_order.ensures (order_le _)
 
 pub smoothed_gain-requires : goal.smoothed_gain-requires
 smoothed_gain-requires c =
-    omega (arith, count c.before.before.before.before.before.before.before.before, (bounds c.before.before.before.before.before.before.before.before.before).count_high)
+    let bounds : Shaped (rate_of c.args.khz) (count_of c.args.nb_subfr) = shaped c.args.khz c.args.nb_subfr c.requires.0 c.requires.1 in
+    let count : c.count_of-n.result ≡ count_of c.args.nb_subfr = c.count_of-n.ensures ∙ ap count_of (to_z-of_z c.ranges.nb_subfr) in
+    omega (arith, count, bounds.count_high)
 
 pub returns : goal.returns
 unfolding tracked
 returns c =
+    let count : c.count_of-n.result ≡ count_of c.args.nb_subfr = c.count_of-n.ensures ∙ ap count_of (to_z-of_z c.ranges.nb_subfr) in
     rw (
       c.smoothed_gain.ensures,
       kept w32 c.args.h.cng_smth_gain_q16 c.struct_told-1.given.1.1.1.0.1,
@@ -48,6 +47,6 @@ returns c =
       c.moved_in-moved.ensures,
       c.loudest.ensures,
       c.subfr_length.ensures,
-      count c.before.before.before.before.before.before.before.before.before,
+      count,
       to_z-of_z c.ranges.khz,
     )
