@@ -4,7 +4,7 @@ use native.Mathlib.Omega.{arith}
 use borrow.Author.Rules.{rules}
 use mir.Syntax.{w32}
 use mir.Facts.{to_z-of_z}
-use Rattle.word.proofs.Words.{kept}
+use Rattle.word.proofs.Words.{kept, got}
 use Rattle.shape.specs.Shape.{rate_of, count_of}
 use Rattle.shape.proofs.Shapes.{Shaped, shaped, order_le}
 use Rattle.cng.specs.Noise.{loudest, tracked}
@@ -40,7 +40,7 @@ unfolding tracked
 returns c =
     let count : c.count_of-n.result ≡ count_of c.args.nb_subfr = c.count_of-n.ensures ∙ ap count_of (to_z-of_z c.ranges.nb_subfr) in
     rw (
-      c.smoothed_gain.ensures,
+      got w32 c.smoothed_gain.type_inv c.smoothed_gain.ensures,
       kept w32 c.args.h.cng_smth_gain_q16 c.struct_told-1.given.1.1.1.0.1,
       c.smoothed_lines-smoothed.ensures,
       c.lpc_order.ensures,
