@@ -54,7 +54,7 @@ returns c =
     let v = s.settings.edition in
     let u = kept w32 v c.struct_told-4-1.given.1.0.1 in
     let e : c.lost-new.result ≡ sounded v d h n = rw (c.lost-new.ensures.0, khz, u) in
-    let f : c.lost-new.new.1.1.1.1.1.0 ≡ sounding v d s.s_plc.rand_scale_q14 (get_or s.s_plc.prev_gain_q16 1 (pos 0)) h n frame =
+    let f : c.lost-new.new.frame ≡ sounding v d s.s_plc.rand_scale_q14 (get_or s.s_plc.prev_gain_q16 1 (pos 0)) h n frame =
     rw (c.lost-new.ensures.1, khz, u, kept w16 s.s_plc.rand_scale_q14 c.struct_told-3-1.given.1.1.1.1.1.0.1, kept w32 (get_or s.s_plc.prev_gain_q16 1 (pos 0)) c.lost-arg-1.given) in
-    let one : ◌≡◌ {A = Framed} (record { state = with_noise s c.lost-new.result; frame = c.lost-new.new.1.1.1.1.1.0 }) (record { state = with_noise s (sounded v d h n); frame = sounding v d s.s_plc.rand_scale_q14 (get_or s.s_plc.prev_gain_q16 1 (pos 0)) h n frame }) = λ i. record { state = with_noise s (e i); frame = f i } in
+    let one : ◌≡◌ {A = Framed} (record { state = with_noise s c.lost-new.result; frame = c.lost-new.new.frame }) (record { state = with_noise s (sounded v d h n); frame = sounding v d s.s_plc.rand_scale_q14 (get_or s.s_plc.prev_gain_q16 1 (pos 0)) h n frame }) = λ i. record { state = with_noise s (e i); frame = f i } in
     one ∙ sym (lost-is p s a.gains.now n frame z)

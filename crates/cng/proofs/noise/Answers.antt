@@ -26,14 +26,14 @@ pub slice_bounds-added-end : goal.slice_bounds-added-end
 slice_bounds-added-end c =
     let part : (let m = 16 + length c.args.frame.now in length (take m c.zeros336-buf.result) ≡ m) = let n : length c.zeros336-buf.result ≡ 336 = search rules in length-take-le _ _ (omega (arith, c.requires.0)) in
     let sixteen : length c.args.h.cng_synth_state ≡ 16 = search rules in
-    let made : (let n = length c.args.frame.now in let sig = c.noise_signal-seed.new.0 in (sig ≡ noise_signal c.args.edition c.args.d c.args.h n) × (c.noise_signal-seed.result ≡ seed_at c.args.h.rand_seed n) × (length sig ≡ 16 + n) × (length (sig ++ drop (16 + n) c.zeros336-buf.result) ≡ 336)) = let n = length c.args.frame.now in let b : length c.zeros336-buf.result ≡ 336 = search rules in let l : length (take (16 + n) c.zeros336-buf.result) - 16 ≡ n = omega (arith, part) in let e : c.noise_signal-seed.new.0 ≡ noise_signal c.args.edition c.args.d c.args.h n = c.noise_signal-seed.ensures.1 ∙ (λ i. noise_signal (to_z-of_z c.ranges.edition i) c.args.d c.args.h (l i)) in let k : length c.noise_signal-seed.new.0 ≡ 16 + n = ap length e ∙ noise_length c.args.edition c.args.d c.args.h n sixteen in (e, c.noise_signal-seed.ensures.0 ∙ ap (seed_at c.args.h.rand_seed) l, k, simp (length-append, length-drop) (omega (arith, c.requires.0))) in
+    let made : (let n = length c.args.frame.now in let sig = c.noise_signal-seed.new.buf in (sig ≡ noise_signal c.args.edition c.args.d c.args.h n) × (c.noise_signal-seed.result ≡ seed_at c.args.h.rand_seed n) × (length sig ≡ 16 + n) × (length (sig ++ drop (16 + n) c.zeros336-buf.result) ≡ 336)) = let n = length c.args.frame.now in let b : length c.zeros336-buf.result ≡ 336 = search rules in let l : length (take (16 + n) c.zeros336-buf.result) - 16 ≡ n = omega (arith, part) in let e : c.noise_signal-seed.new.buf ≡ noise_signal c.args.edition c.args.d c.args.h n = c.noise_signal-seed.ensures.1 ∙ (λ i. noise_signal (to_z-of_z c.ranges.edition i) c.args.d c.args.h (l i)) in let k : length c.noise_signal-seed.new.buf ≡ 16 + n = ap length e ∙ noise_length c.args.edition c.args.d c.args.h n sixteen in (e, c.noise_signal-seed.ensures.0 ∙ ap (seed_at c.args.h.rand_seed) l, k, simp (length-append, length-drop) (omega (arith, c.requires.0))) in
     omega (arith, made.3, c.requires.0)
 
 pub slice_bounds-copy32_at-end-2 : goal.slice_bounds-copy32_at-end-2
 slice_bounds-copy32_at-end-2 c =
     let part : (let m = 16 + length c.args.frame.now in length (take m c.zeros336-buf.result) ≡ m) = let n : length c.zeros336-buf.result ≡ 336 = search rules in length-take-le _ _ (omega (arith, c.requires.0)) in
     let sixteen : length c.args.h.cng_synth_state ≡ 16 = search rules in
-    let made : (let n = length c.args.frame.now in let sig = c.noise_signal-seed.new.0 in (sig ≡ noise_signal c.args.edition c.args.d c.args.h n) × (c.noise_signal-seed.result ≡ seed_at c.args.h.rand_seed n) × (length sig ≡ 16 + n) × (length (sig ++ drop (16 + n) c.zeros336-buf.result) ≡ 336)) = let n = length c.args.frame.now in let b : length c.zeros336-buf.result ≡ 336 = search rules in let l : length (take (16 + n) c.zeros336-buf.result) - 16 ≡ n = omega (arith, part) in let e : c.noise_signal-seed.new.0 ≡ noise_signal c.args.edition c.args.d c.args.h n = c.noise_signal-seed.ensures.1 ∙ (λ i. noise_signal (to_z-of_z c.ranges.edition i) c.args.d c.args.h (l i)) in let k : length c.noise_signal-seed.new.0 ≡ 16 + n = ap length e ∙ noise_length c.args.edition c.args.d c.args.h n sixteen in (e, c.noise_signal-seed.ensures.0 ∙ ap (seed_at c.args.h.rand_seed) l, k, simp (length-append, length-drop) (omega (arith, c.requires.0))) in
+    let made : (let n = length c.args.frame.now in let sig = c.noise_signal-seed.new.buf in (sig ≡ noise_signal c.args.edition c.args.d c.args.h n) × (c.noise_signal-seed.result ≡ seed_at c.args.h.rand_seed n) × (length sig ≡ 16 + n) × (length (sig ++ drop (16 + n) c.zeros336-buf.result) ≡ 336)) = let n = length c.args.frame.now in let b : length c.zeros336-buf.result ≡ 336 = search rules in let l : length (take (16 + n) c.zeros336-buf.result) - 16 ≡ n = omega (arith, part) in let e : c.noise_signal-seed.new.buf ≡ noise_signal c.args.edition c.args.d c.args.h n = c.noise_signal-seed.ensures.1 ∙ (λ i. noise_signal (to_z-of_z c.ranges.edition i) c.args.d c.args.h (l i)) in let k : length c.noise_signal-seed.new.buf ≡ 16 + n = ap length e ∙ noise_length c.args.edition c.args.d c.args.h n sixteen in (e, c.noise_signal-seed.ensures.0 ∙ ap (seed_at c.args.h.rand_seed) l, k, simp (length-append, length-drop) (omega (arith, c.requires.0))) in
     omega (arith, made.3, c.requires.0)
 
 pub copy32_at-requires : goal.copy32_at-requires
@@ -47,7 +47,7 @@ unfolding sounded
 returns c =
     let sixteen : length c.args.h.cng_synth_state ≡ 16 = search rules in
     let part : (let m = 16 + length c.args.frame.now in length (take m c.zeros336-buf.result) ≡ m) = let n : length c.zeros336-buf.result ≡ 336 = search rules in length-take-le _ _ (omega (arith, c.requires.0)) in
-    let made : (let n = length c.args.frame.now in let sig = c.noise_signal-seed.new.0 in (sig ≡ noise_signal c.args.edition c.args.d c.args.h n) × (c.noise_signal-seed.result ≡ seed_at c.args.h.rand_seed n) × (length sig ≡ 16 + n) × (length (sig ++ drop (16 + n) c.zeros336-buf.result) ≡ 336)) = let n = length c.args.frame.now in let b : length c.zeros336-buf.result ≡ 336 = search rules in let l : length (take (16 + n) c.zeros336-buf.result) - 16 ≡ n = omega (arith, part) in let e : c.noise_signal-seed.new.0 ≡ noise_signal c.args.edition c.args.d c.args.h n = c.noise_signal-seed.ensures.1 ∙ (λ i. noise_signal (to_z-of_z c.ranges.edition i) c.args.d c.args.h (l i)) in let k : length c.noise_signal-seed.new.0 ≡ 16 + n = ap length e ∙ noise_length c.args.edition c.args.d c.args.h n sixteen in (e, c.noise_signal-seed.ensures.0 ∙ ap (seed_at c.args.h.rand_seed) l, k, simp (length-append, length-drop) (omega (arith, c.requires.0))) in
+    let made : (let n = length c.args.frame.now in let sig = c.noise_signal-seed.new.buf in (sig ≡ noise_signal c.args.edition c.args.d c.args.h n) × (c.noise_signal-seed.result ≡ seed_at c.args.h.rand_seed n) × (length sig ≡ 16 + n) × (length (sig ++ drop (16 + n) c.zeros336-buf.result) ≡ 336)) = let n = length c.args.frame.now in let b : length c.zeros336-buf.result ≡ 336 = search rules in let l : length (take (16 + n) c.zeros336-buf.result) - 16 ≡ n = omega (arith, part) in let e : c.noise_signal-seed.new.buf ≡ noise_signal c.args.edition c.args.d c.args.h n = c.noise_signal-seed.ensures.1 ∙ (λ i. noise_signal (to_z-of_z c.ranges.edition i) c.args.d c.args.h (l i)) in let k : length c.noise_signal-seed.new.buf ≡ 16 + n = ap length e ∙ noise_length c.args.edition c.args.d c.args.h n sixteen in (e, c.noise_signal-seed.ensures.0 ∙ ap (seed_at c.args.h.rand_seed) l, k, simp (length-append, length-drop) (omega (arith, c.requires.0))) in
     let h = c.args.h in
     let frame = c.args.frame.now in
     let n = length frame in

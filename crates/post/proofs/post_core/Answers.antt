@@ -19,19 +19,19 @@ core-requires c =
     long
 
 pub shape_of-words : goal.shape_of-words
-shape_of-words c = c.core.auto.0
+shape_of-words c = c.core.auto.words
 
 pub shape_of-halves : goal.shape_of-halves
-shape_of-halves c = c.core.auto.1.0
+shape_of-halves c = c.core.auto.halves
 
 pub shape_of-frame : goal.shape_of-frame
-shape_of-frame c = c.core.auto.1.1.0
+shape_of-frame c = c.core.auto.frame
 
 pub shape_of-coefs : goal.shape_of-coefs
-shape_of-coefs c = c.core.auto.1.1.1.0
+shape_of-coefs c = c.core.auto.coefs
 
 pub shape_of-output : goal.shape_of-output
-shape_of-output c = c.core.auto.1.1.1.1.1.0
+shape_of-output c = c.core.auto.output
 
 pub returns : goal.returns
 unfolding core_call

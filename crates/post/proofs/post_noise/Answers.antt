@@ -19,13 +19,13 @@ noise-requires c =
     long
 
 pub shape_of-words : goal.shape_of-words
-shape_of-words c = c.noise.auto.0
+shape_of-words c = c.noise.auto.words
 
 pub shape_of-halves : goal.shape_of-halves
-shape_of-halves c = c.noise.auto.1.0
+shape_of-halves c = c.noise.auto.halves
 
 pub shape_of-buffer : goal.shape_of-buffer
-shape_of-buffer c = c.noise.auto.1.1.1.0
+shape_of-buffer c = c.noise.auto.buffer
 
 pub returns : goal.returns
 unfolding noise_call

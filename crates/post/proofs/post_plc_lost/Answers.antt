@@ -19,16 +19,16 @@ plc_lost-requires c =
     long
 
 pub shape_of-words : goal.shape_of-words
-shape_of-words c = c.plc_lost.auto.0
+shape_of-words c = c.plc_lost.auto.words
 
 pub shape_of-halves : goal.shape_of-halves
-shape_of-halves c = c.plc_lost.auto.1.0
+shape_of-halves c = c.plc_lost.auto.halves
 
 pub shape_of-frame : goal.shape_of-frame
-shape_of-frame c = c.plc_lost.auto.1.1.0
+shape_of-frame c = c.plc_lost.auto.frame
 
 pub shape_of-output : goal.shape_of-output
-shape_of-output c = c.plc_lost.auto.1.1.1.0
+shape_of-output c = c.plc_lost.auto.output
 
 pub returns : goal.returns
 unfolding plc_lost_call

@@ -19,10 +19,10 @@ plc_received-requires c =
     long
 
 pub shape_of-words : goal.shape_of-words
-shape_of-words c = c.plc_received.auto.0
+shape_of-words c = c.plc_received.auto.words
 
 pub shape_of-halves : goal.shape_of-halves
-shape_of-halves c = c.plc_received.auto.1.0
+shape_of-halves c = c.plc_received.auto.halves
 
 pub returns : goal.returns
 unfolding plc_received_call

@@ -23,10 +23,10 @@ set_up-requires c =
     long
 
 pub shape_of-words : goal.shape_of-words
-shape_of-words c = c.set_up.auto.1.1.1.0
+shape_of-words c = c.set_up.auto.words
 
 pub shape_of-halves : goal.shape_of-halves
-shape_of-halves c = c.set_up.auto.1.1.1.1.0
+shape_of-halves c = c.set_up.auto.halves
 
 pub returns : goal.returns
 unfolding set_up_call

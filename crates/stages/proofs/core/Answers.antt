@@ -46,19 +46,19 @@ keep_taps-requires c =
     long.3
 
 pub shape_of-words : goal.shape_of-words
-shape_of-words c = c.keep_state.auto.1.1.0
+shape_of-words c = c.keep_state.auto.words
 
 pub shape_of-halves : goal.shape_of-halves
-shape_of-halves c = c.keep_state.auto.1.1.1.0
+shape_of-halves c = c.keep_state.auto.halves
 
 pub shape_of-frame : goal.shape_of-frame
-shape_of-frame c = c.keep_lags.auto.1.1.0
+shape_of-frame c = c.keep_lags.auto.frame
 
 pub shape_of-coefs : goal.shape_of-coefs
-shape_of-coefs c = c.keep_taps.auto.1.1.0
+shape_of-coefs c = c.keep_taps.auto.coefs
 
 pub shape_of-output : goal.shape_of-output
-shape_of-output c = c.silk_decode_core-a.auto.1.1.1.1.1.0
+shape_of-output c = c.silk_decode_core-a.auto.xq
 
 pub returns : goal.returns
 unfolding core_on core_answer core_output

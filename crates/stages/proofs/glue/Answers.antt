@@ -19,13 +19,13 @@ keep_state-requires c =
     let l = long in (l.0, l.1)
 
 pub shape_of-words : goal.shape_of-words
-shape_of-words c = c.keep_state.auto.1.1.0
+shape_of-words c = c.keep_state.auto.words
 
 pub shape_of-halves : goal.shape_of-halves
-shape_of-halves c = c.keep_state.auto.1.1.1.0
+shape_of-halves c = c.keep_state.auto.halves
 
 pub shape_of-buffer : goal.shape_of-buffer
-shape_of-buffer c = c.silk_plc_glue_frames-a.auto.1.0
+shape_of-buffer c = c.silk_plc_glue_frames-a.auto.frame
 
 pub returns : goal.returns
 unfolding glue_on glue_answer glue_output

@@ -34,16 +34,16 @@ keep_lags-requires c =
     long.2
 
 pub shape_of-words : goal.shape_of-words
-shape_of-words c = c.keep_state.auto.1.1.0
+shape_of-words c = c.keep_state.auto.words
 
 pub shape_of-halves : goal.shape_of-halves
-shape_of-halves c = c.keep_state.auto.1.1.1.0
+shape_of-halves c = c.keep_state.auto.halves
 
 pub shape_of-frame : goal.shape_of-frame
-shape_of-frame c = c.keep_lags.auto.1.1.0
+shape_of-frame c = c.keep_lags.auto.frame
 
 pub shape_of-output : goal.shape_of-output
-shape_of-output c = c.silk_plc_lost-a.auto.1.1.0
+shape_of-output c = c.silk_plc_lost-a.auto.xq
 
 pub returns : goal.returns
 unfolding plc_lost_on plc_lost plc_lost_output

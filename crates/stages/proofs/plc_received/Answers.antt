@@ -36,10 +36,10 @@ keep_state-requires c =
     let l = long in (l.0, l.1)
 
 pub shape_of-words : goal.shape_of-words
-shape_of-words c = c.keep_state.auto.1.1.0
+shape_of-words c = c.keep_state.auto.words
 
 pub shape_of-halves : goal.shape_of-halves
-shape_of-halves c = c.keep_state.auto.1.1.1.0
+shape_of-halves c = c.keep_state.auto.halves
 
 pub returns : goal.returns
 unfolding plc_received_on
