@@ -2,7 +2,6 @@ use Rattle.checksum.specs.Sum.{mixed}
 use mir.Facts.{to_z-of_z}
 use mir.Syntax.{w32}
 use Rattle.word.proofs.Words.{kept}
-use borrow.Author.Rules.{rules}
 use Rattle.checksum.proofs.mixed.Goals as goal
 
 pub returns : goal.returns

@@ -1,14 +1,12 @@
-use Prim.Native.Nat.{◌-◌, ◌≤◌}
-use mathlib.Core.Path.{◌≡◌, refl}
+use mathlib.Core.Path.{refl}
 use native.Mathlib.Nat.{le_antisymm}
 use native.Mathlib.Numerals.{add-one}
 use lib.IntN.{pos}
-use lib.ListN.{length, get_or}
+use lib.ListN.{get_or}
 use mir.Syntax.{w16, w32}
-use mir.Val.{to_z}
 use mir.Facts.{to_z-of_z}
 use Rattle.word.proofs.Words.{kept}
-use Rattle.checksum.specs.Sum.{mixed, sum_from}
+use Rattle.checksum.specs.Sum.{sum_from}
 use borrow.Author.Rules.{rules}
 use Rattle.checksum.proofs.sum16.Goals as goal
 
