@@ -8,7 +8,7 @@ returns c =
     rw (
       c.param_rows.ensures,
       c.first-line.ensures,
-      c.Line-row.ensures,
+      c.line_row.ensures,
       to_z-of_z c.ranges.fs_khz,
       to_z-of_z c.ranges.nb_subfr,
     )

@@ -5,11 +5,11 @@ use Rattle.judge.proofs.is_interpolation.Goals as goal
 
 pub returns-in-0-to-3 : goal.returns-in-0-to-3
 returns-in-0-to-3 c =
-    at_most 4 c.args.n (lt_read_l (pos 0) c.ranges.n c.if-n-lt0.false) (lt_read_l (pos 5) c.ranges.n c.if-n-lt5.true)
+    at_most 4 c.args.n (lt_read_l (pos 0) c.ranges.n c.in-0-to-3.if-n-lt0-own.false) (lt_read_l (pos 5) c.ranges.n c.in-0-to-3.if-n-lt5-own.true)
 
 pub returns-in_default : goal.returns-in_default
-returns-in_default c = below 4 c.args.n (lt_read_l (pos 0) c.ranges.n c.if-n-lt0.true)
+returns-in_default c = below 4 c.args.n (lt_read_l (pos 0) c.ranges.n c.in_default.if-n-lt0-own.true)
 
 pub returns-in_default-2 : goal.returns-in_default-2
 returns-in_default-2 c =
-    at_most 4 c.args.n (lt_read_l (pos 0) c.ranges.n c.if-n-lt0.false) (lt_read_l (pos 5) c.ranges.n c.if-n-lt5.false)
+    at_most 4 c.args.n (lt_read_l (pos 0) c.ranges.n c.in_default.if-n-lt0-own.false) (lt_read_l (pos 5) c.ranges.n c.in_default.if-n-lt5-own.false)

@@ -12,7 +12,7 @@ returns c =
       c.run_full_row.ensures,
       kept w32 c.args.s.loss_cnt c.struct_told-1.given.1.1.1.1.1.1.1.1.1.1.1.1.1.1.0.1,
       c.first-from_11.ensures,
-      c.Room-row.ensures,
+      c.room_row-few_samples.ensures,
       to_z-of_z c.ranges.khz,
       to_z-of_z c.ranges.nb_subfr,
     )

@@ -8,7 +8,7 @@ returns c =
     rw (
       c.first.ensures,
       c.first-speaker.ensures,
-      c.Room-row.ensures,
+      c.room_row-few_pulses.ensures,
       c.room_row-short_output.ensures,
       to_z-of_z c.ranges.fs_khz,
       to_z-of_z c.ranges.nb_subfr,
