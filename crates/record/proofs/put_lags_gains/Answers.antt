@@ -9,6 +9,6 @@ use Rattle.record.proofs.put_lags_gains.Goals as goal
 pub returns : goal.returns
 returns c =
     let a = c.args in
-    let l : length a.t3 ≡ 4 = search rules in
-    let m : length a.t4 ≡ 4 = search rules in
-    rw (c.put32s-2.ensures, c.put32s.ensures, l, m) (with-behind w32 a.t3 4 a.to.now a.at _ (omega arith))
+    let l : length a.lags ≡ 4 = search rules in
+    let m : length a.gains ≡ 4 = search rules in
+    rw (c.put32s-2.ensures, c.put32s.ensures, l, m) (with-behind w32 a.lags 4 a.to.now a.at _ (omega arith))

@@ -9,5 +9,5 @@ use Rattle.record.proofs.put_lines_pulses.Goals as goal
 pub returns : goal.returns
 returns c =
     let a = c.args in
-    let l : length a.t3 ≡ 16 = search rules in
-    rw (c.put16s-2.ensures, c.put16s.ensures, l, c.requires.1) (with-behind w16 a.t3 16 a.to.now a.at _ (omega arith))
+    let l : length a.lines ≡ 16 = search rules in
+    rw (c.put16s-2.ensures, c.put16s.ensures, l, c.requires.1) (with-behind w16 a.lines 16 a.to.now a.at _ (omega arith))

@@ -9,6 +9,6 @@ use Rattle.record.proofs.put_rows.Goals as goal
 pub returns : goal.returns
 returns c =
     let a = c.args in
-    let l : length a.t3 ≡ 16 = search rules in
-    let m : length a.t4 ≡ 16 = search rules in
-    rw (c.put16s-2.ensures, c.put16s.ensures, l, m) (with-behind w16 a.t3 16 a.to.now a.at _ (omega arith))
+    let l : length a.first ≡ 16 = search rules in
+    let m : length a.second ≡ 16 = search rules in
+    rw (c.put16s-2.ensures, c.put16s.ensures, l, m) (with-behind w16 a.first 16 a.to.now a.at _ (omega arith))

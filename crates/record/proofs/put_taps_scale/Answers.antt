@@ -10,5 +10,5 @@ use Rattle.record.proofs.put_taps_scale.Goals as goal
 pub returns : goal.returns
 returns c =
     let a = c.args in
-    let l : length a.t3 ≡ 20 = search rules in
-    rw (c.put32.ensures, to_z-of_z c.ranges.scale, c.put16s.ensures, l) (with-behind w16 a.t3 20 a.to.now a.at _ (omega arith))
+    let l : length a.taps ≡ 20 = search rules in
+    rw (c.put32.ensures, to_z-of_z c.ranges.scale, c.put16s.ensures, l) (with-behind w16 a.taps 20 a.to.now a.at _ (omega arith))
