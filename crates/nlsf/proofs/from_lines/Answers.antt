@@ -23,5 +23,5 @@ returns c =
     let d = c.args.d in
     let o = order_even c.requires.0 in
     let g = cosines c.args.nlsf.now d d in
-    let l : (c.before.before.before.before.before.before.before.before : ℕ) → length (poly g c.before.before.before.before.before.before.before.before (d / 2 - 1)) ≡ d / 2 + 1 = λ c.before.before.before.before.before.before.before.before. length-poly g c.before.before.before.before.before.before.before.before (d / 2 - 1) ∙ omega arith in
+    let l : (s : ℕ) → length (poly g s (d / 2 - 1)) ≡ d / 2 + 1 = λ s. length-poly g s (d / 2 - 1) ∙ omega arith in
     rw (c.lpc_coefficients.ensures, c.silk_nlsf2a_find_poly-q.ensures, c.silk_nlsf2a_find_poly-p.ensures, c.cosines-c.ensures, coefficients-front (poly g 0 (d / 2 - 1)) (poly g 1 (d / 2 - 1)) (drop (d / 2 + 1) (replicate 9 (pos 0))) d o.0 (l 0) (l 1))

@@ -15,8 +15,8 @@ larger c = lt_read {a = c.args.p.size} (record { sfits = c.struct_told-1.given.0
 
 pub returns-then-v-p : goal.returns-then-v-p
 unfolding higher
-returns-then-v-p c = rw (larger c.before c.if-v-p.true, to_z-of_z c.ranges.v)
+returns-then-v-p c = rw (larger (goal.at.returns-then-v-p c).After-struct_told-1 c.if-v-p.true, to_z-of_z c.ranges.v)
 
 pub returns : goal.returns
 unfolding higher
-returns c = rw (larger c.before c.if-v-p.false) refl
+returns c = rw (larger (goal.at.returns c).After-struct_told-1 c.if-v-p.false) refl

@@ -26,8 +26,8 @@ returns-then-i-gt64 c =
       got w32 c.wide16.type_inv c.wide16.ensures,
       kept w16 (get_or c.args.tab.now (128 - c.args.i) (pos 0)) c.wide16-arg-1.given,
       e,
-      wrap_id {c.before.before = w32} {z = neg_ℤ x} (abs-fits (neg_ℤ x) (omega arith)),
-      wrap_id {c.before.before = w16} {z = neg_ℤ x} (abs-fits (neg_ℤ x) (omega arith)),
+      wrap_id {w = w32} {z = neg_ℤ x} (abs-fits (neg_ℤ x) (omega arith)),
+      wrap_id {w = w16} {z = neg_ℤ x} (abs-fits (neg_ℤ x) (omega arith)),
       lt-ltb _ _ c.if-i-gt64.true,
     )
 

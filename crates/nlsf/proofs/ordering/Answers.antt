@@ -17,7 +17,7 @@ unfolding ordering16
 overflow_cast-result c = omega (arith, place16_lt c.args.k)
 
 pub bounds-k-else-d-eq16 : goal.bounds-k-else-d-eq16
-bounds-k-else-d-eq16 c = omega (arith, ten c)
+bounds-k-else-d-eq16 c = omega (arith, ten (goal.at.bounds-k-else-d-eq16 c).Else-d-eq16)
 
 pub overflow_cast-result-else-d-eq16 : goal.overflow_cast-result-else-d-eq16
 unfolding ordering10

@@ -25,7 +25,7 @@ expanded chirp a j = smulww (factor32 chirp j) (get_or a j (pos 0))
 abbrev pub invariant-loop-i : goal.invariant-loop-i
 invariant-loop-i l =
     (l.i ≤ l.i-end) × (l.i-end ≡ length l.initial.ar) × (length l.ar ≡ length l.initial.ar)
-    × (to_z w32 l.f ≡ factor32 (to_z w32 l.chirp) l.i) × (l.ar ≡ tabulate l.i (expanded (to_z w32 l.chirp) l.initial.ar) ++ drop l.i l.initial.ar)
+    × (l.f ≡ factor32 l.chirp l.i) × (l.ar ≡ tabulate l.i (expanded l.chirp l.initial.ar) ++ drop l.i l.initial.ar)
 
 abbrev pub decreases-loop-i : goal.decreases-loop-i
 decreases-loop-i l = l.i-end - l.i

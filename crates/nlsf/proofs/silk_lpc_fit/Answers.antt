@@ -30,7 +30,7 @@ chirp_of-requires c =
 pub returns-else-m-gt32767 : goal.returns-else-m-gt32767
 returns-else-m-gt32767 c =
     let t = c.loop-test.true in
-    rw (c.rounded.ensures, c.loop.invariant.3) (sym (fit-stops c.loop.a c.loop.counter t (within c.before.before.before.before.before c.if-m-gt32767.false)))
+    rw (c.rounded.ensures, c.loop.invariant.3) (sym (fit-stops c.loop.a c.loop.counter t (within (goal.at.returns-else-m-gt32767 c).After-in_q12-m c.if-m-gt32767.false)))
 
 pub loop-preserved : goal.loop-preserved
 loop-preserved c =
@@ -39,8 +39,8 @@ loop-preserved c =
       search rules,
       search rules,
       rw (c.silk_bwexpander_32.ensures, length-bwexpander32) (search rules),
-      rw (c.silk_bwexpander_32.ensures, got w32 c.chirp_of.type_inv c.chirp_of.ensures, got w32 c.in_q12-m.type_inv (largest c.before.before.before.before.before), c.maxabs-p.ensures)
-          (c.loop.invariant.3 ∙ fit-goes_on a c.loop.counter t (within c.before.before.before.before.before c.if-m-gt32767.true)),
+      rw (c.silk_bwexpander_32.ensures, got w32 c.chirp_of.type_inv c.chirp_of.ensures, got w32 c.in_q12-m.type_inv (largest (goal.at.loop-preserved c).After-in_q12-m), c.maxabs-p.ensures)
+          (c.loop.invariant.3 ∙ fit-goes_on a c.loop.counter t (within (goal.at.loop-preserved c).After-in_q12-m c.if-m-gt32767.true)),
     )
 
 pub returns : goal.returns

@@ -40,10 +40,10 @@ pub slice_bounds-p-end : goal.slice_bounds-p-end
 slice_bounds-p-end c = (room c).0
 
 pub slice_bounds-times_factor-end : goal.slice_bounds-times_factor-end
-slice_bounds-times_factor-end c = sym (room c.before).1
+slice_bounds-times_factor-end c = sym (room (goal.at.slice_bounds-times_factor-end c).After-p-1).1
 
 pub times_factor-requires : goal.times_factor-requires
-times_factor-requires c = omega (arith, room c.before)
+times_factor-requires c = omega (arith, room (goal.at.times_factor-requires c).After-p-1)
 
 pub loop-k-preserved : goal.loop-k-preserved
 loop-k-preserved c =
@@ -54,10 +54,10 @@ loop-k-preserved c =
     let n : k + 2 < 9 = omega arith in (
       search rules,
       search rules,
-      length_front (stored c.before.before.before) c.times_factor.new.1.0 (k + 3) c.times_factor.auto.1.0 ∙ (room c.before.before.before).2,
+      length_front (stored (goal.at.loop-k-preserved c).After-p-1) c.times_factor.new.p (k + 3) c.times_factor.auto.p ∙ (room (goal.at.loop-k-preserved c).After-p-1).2,
       rw (
         c.times_factor.ensures,
-        (room c.before.before.before).1,
+        (room (goal.at.loop-k-preserved c).After-p-1).1,
         kept w32 (get_or s.c.now (2 * k + 2 + s.s) (pos 0)) c.f-1.given,
         kept w32 (get_or c.loop-k.p k (pos 0)) c.p-1.given,
         c.loop-k.invariant.3,

@@ -29,14 +29,14 @@ number c =
 
 pub returns-then-inverse_pred_gain-ne0 : goal.returns-then-inverse_pred_gain-ne0
 returns-then-inverse_pred_gain-ne0 c =
-    let e : eq_ℤ (inverse_gain (stability c.args.edition c.loop-i.a_q12)) (pos 0) ≡ false = rw (← number c.before) (isnt w32 c.inverse_pred_gain.result 0 c.if-inverse_pred_gain-ne0.true) in
+    let e : eq_ℤ (inverse_gain (stability c.args.edition c.loop-i.a_q12)) (pos 0) ≡ false = rw (← number (goal.at.returns-then-inverse_pred_gain-ne0 c).After-inverse_pred_gain) (isnt w32 c.inverse_pred_gain.result 0 c.if-inverse_pred_gain-ne0.true) in
     sym (rw (to_z-of_z c.ranges.edition) at c.loop-i.invariant.3 ∙ rounds_stop _ c.loop-i.a_q12 c.loop-i.a c.loop-i.i c.loop-i-test.true e)
 
 pub loop-i-preserved : goal.loop-i-preserved
 loop-i-preserved c =
     let f = to_z-of_z c.ranges.edition in
     let e : eq_ℤ (inverse_gain (stability c.args.edition c.loop-i.a_q12)) (pos 0) ≡ true =
-    rw (← number c.before.before.before.before.before.before.before.before.before) (is w32 c.inverse_pred_gain.result 0 (lit< tt) (record { sfits = c.inverse_pred_gain.type_inv }) c.if-inverse_pred_gain-ne0.false) in (
+    rw (← number (goal.at.loop-i-preserved c).After-inverse_pred_gain) (is w32 c.inverse_pred_gain.result 0 (lit< tt) (record { sfits = c.inverse_pred_gain.type_inv }) c.if-inverse_pred_gain-ne0.false) in (
       search rules,
       search rules,
       search rules,

@@ -25,7 +25,7 @@ fit q a = record { q12 = q; q17 = a }
 
 abbrev pub invariant-loop-i : goal.invariant-loop-i
 invariant-loop-i l =
-    (l.i ≤ 16) × (length l.a_q12 ≡ length l.initial.a) × (length l.a ≡ length l.initial.a) × (stabilised (to_z w32 l.edition) 16 0 (fit l.initial.a_q12 l.initial.a) ≡ stabilised (to_z w32 l.edition) (16 - l.i) l.i (fit l.a_q12 l.a))
+    (l.i ≤ 16) × (length l.a_q12 ≡ length l.initial.a) × (length l.a ≡ length l.initial.a) × (stabilised l.edition 16 0 (fit l.initial.a_q12 l.initial.a) ≡ stabilised l.edition (16 - l.i) l.i (fit l.a_q12 l.a))
 
 abbrev pub decreases-loop-i : goal.decreases-loop-i
 decreases-loop-i l = 16 - l.i

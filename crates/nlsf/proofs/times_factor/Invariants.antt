@@ -18,7 +18,7 @@ use Rattle.nlsf.proofs.times_factor.Given as goal
 abbrev pub invariant-loop-n : goal.invariant-loop-n
 invariant-loop-n l =
     (1 ≤ l.n) × (l.n < length l.initial.p) × (length l.p ≡ length l.initial.p)
-    × (l.p ≡ take (l.n + 1) l.initial.p ++ drop (l.n + 1) (tabulate (length l.initial.p) (times_factor (to_z w32 l.f) l.initial.p)))
+    × (l.p ≡ take (l.n + 1) l.initial.p ++ drop (l.n + 1) (tabulate (length l.initial.p) (times_factor l.f l.initial.p)))
 
 abbrev pub decreases-loop-n : goal.decreases-loop-n
 decreases-loop-n l = l.n
