@@ -23,7 +23,7 @@ front : (c : Start) → let n = c.args.f.subfr_length * c.args.count in length (
 front c = length-take-le _ c.args.exc.now c.requires.3
 
 -- the excitation
-excited : (c : After-excite) → let a = c.args in let n = a.f.subfr_length * a.count in c.excite.new.0 ≡ excitation (offset_q14 a.f.voiced a.q.quant_offset_type) a.pulses.now a.q.seed n
+excited : (c : After-excite) → let a = c.args in let n = a.f.subfr_length * a.count in c.excite.new.exc ≡ excitation (offset_q14 a.f.voiced a.q.quant_offset_type) a.pulses.now a.q.seed n
 excited c =
     rw (
       c.excite.ensures,
@@ -36,8 +36,8 @@ excited c =
       front c.before.before.before.before.before.before.before,
     )
 
-excited-length : (c : After-excite) → let a = c.args in length c.excite.new.0 ≡ a.f.subfr_length * a.count
-excited-length c = c.excite.auto.0 ∙ front c.before.before.before.before.before.before.before
+excited-length : (c : After-excite) → let a = c.args in length c.excite.new.exc ≡ a.f.subfr_length * a.count
+excited-length c = c.excite.auto.exc ∙ front c.before.before.before.before.before.before.before
 
 pub overflow_mul-n : goal.overflow_mul-n
 overflow_mul-n c = record { fits = omega (arith, room c.before) }
@@ -46,7 +46,7 @@ pub slice_bounds-excite-end : goal.slice_bounds-excite-end
 slice_bounds-excite-end c = c.requires.3
 
 pub slice_bounds-excite-end-2 : goal.slice_bounds-excite-end-2
-slice_bounds-excite-end-2 c = sym (front c.before.before.before.before)
+slice_bounds-excite-end-2 c = sym (front c.before.before.before.before.before)
 
 pub excite-requires : goal.excite-requires
 excite-requires c =
@@ -54,24 +54,24 @@ excite-requires c =
 
 pub slice_bounds-synthesise-end : goal.slice_bounds-synthesise-end
 slice_bounds-synthesise-end c =
-    omega (arith, length-append c.excite.new.0 (drop (c.args.f.subfr_length * c.args.count) c.args.exc.now), excited-length c.before)
+    omega (arith, length-append c.excite.new.exc (drop (c.args.f.subfr_length * c.args.count) c.args.exc.now), excited-length c.before)
 
 pub slice_bounds-synthesise-end-2 : goal.slice_bounds-synthesise-end-2
 slice_bounds-synthesise-end-2 c =
     let n = c.args.f.subfr_length * c.args.count in
-    sym (ap length (take_at c.excite.new.0 (drop n c.args.exc.now) n (excited-length c.before.before)) ∙ excited-length c.before.before)
+    sym (ap length (take_at c.excite.new.exc (drop n c.args.exc.now) n (excited-length c.before)) ∙ excited-length c.before)
 
 pub synthesise-requires : goal.synthesise-requires
 synthesise-requires c =
     let n = c.args.f.subfr_length * c.args.count in
-    let e = take_at c.excite.new.0 (drop n c.args.exc.now) n (excited-length c.before.before.before.before.before) in
-    (c.requires.0, c.requires.1, omega (arith, ap length e, excited-length c.before.before.before.before.before), c.requires.4, c.requires.5, c.requires.6)
+    let e = take_at c.excite.new.exc (drop n c.args.exc.now) n (excited-length c.before.before.before.before) in
+    (c.requires.0, c.requires.1, omega (arith, ap length e, excited-length c.before.before.before.before), c.requires.4, c.requires.5, c.requires.6)
 
 pub returns : goal.returns
 returns c =
     let a = c.args in
     let n = a.f.subfr_length * a.count in
-    let e = take_at c.excite.new.0 (drop n a.exc.now) n (excited-length c.before.before.before.before.before.before.before.before.before) ∙ excited c.before.before.before.before.before.before.before.before.before in (
-      ap (λ (y : List ℤ). y ++ drop n a.exc.now) (excited c.before.before.before.before.before.before.before.before.before),
-      subst (λ (y : List ℤ). Left (subframes a.f a.rows y (begin a.f a.b a.memory.now a.out_buf.now) a.count) c.synthesise.result c.synthesise.new.1.1.1.1.1.0 c.synthesise.new.1.1.1.1.1.1.0 c.synthesise.new.1.1.1.1.1.1.1.0 (drop n a.xq.now)) e c.synthesise.ensures,
+    let e = take_at c.excite.new.exc (drop n a.exc.now) n (excited-length c.before.before.before.before.before.before.before.before) ∙ excited c.before.before.before.before.before.before.before.before in (
+      ap (λ (y : List ℤ). y ++ drop n a.exc.now) (excited c.before.before.before.before.before.before.before.before),
+      subst (λ (y : List ℤ). Left (subframes a.f a.rows y (begin a.f a.b a.memory.now a.out_buf.now) a.count) c.synthesise.result c.synthesise.new.memory c.synthesise.new.out_buf c.synthesise.new.xq (drop n a.xq.now)) e c.synthesise.ensures,
     )

@@ -19,8 +19,8 @@ returns-then-k-eq0 c =
       c.silk_smulwb.ensures,
       kept w32 c.silk_inverse32_varq-inverse.result c.silk_inverse32_varq-inverse.type_inv,
       c.silk_inverse32_varq-inverse.ensures,
-      kept w32 (get_or a.t1.gains_q16 a.k (pos 0)) c.silk_inverse32_varq-arg-1.given,
-      kept w32 a.t1.ltp_scale_q14 c.struct_told-1.given.1.1.1.0.1,
+      kept w32 (get_or a.c.gains_q16 a.k (pos 0)) c.silk_inverse32_varq-arg-1.given,
+      kept w32 a.c.ltp_scale_q14 c.struct_told-1.given.1.1.1.0.1,
     )
 
 pub returns-else-k-eq0 : goal.returns-else-k-eq0
@@ -31,5 +31,5 @@ returns-else-k-eq0 c =
       ne_eqb a.k 0 c.if-k-eq0.false,
       kept w32 _ c.silk_inverse32_varq-inverse.type_inv,
       c.silk_inverse32_varq-inverse.ensures,
-      kept w32 (get_or a.t1.gains_q16 a.k (pos 0)) c.silk_inverse32_varq-arg-1.given,
+      kept w32 (get_or a.c.gains_q16 a.k (pos 0)) c.silk_inverse32_varq-arg-1.given,
     )

@@ -28,16 +28,16 @@ loop-i-preserved c =
     let e : a.idx + (i + 1) ≡ suc (a.idx + i) = omega arith in
     let h : a.idx + i < length a.past.now = omega arith in
     let k : i < length a.res.now = omega arith in
-    let x : to_z w32 (of_z w32 c.silk_add_lshift32-v.result) ≡ ltp_sample (ltp_past (take a.idx a.past.now) a.t3 a.lag a.res.now i) a.t3 a.lag (get_or a.res.now i (pos 0)) =
+    let x : to_z w32 (of_z w32 c.silk_add_lshift32-v.result) ≡ ltp_sample (ltp_past (take a.idx a.past.now) a.taps a.lag a.res.now i) a.taps a.lag (get_or a.res.now i (pos 0)) =
     kept w32 c.silk_add_lshift32-v.result c.silk_add_lshift32-v.type_inv ∙ c.silk_add_lshift32-v.ensures
     ∙ (rw (kept w32 (get_or c.loop-i.res i (pos 0)) c.silk_add_lshift32-arg-1.given, kept w32 c.ltp_prediction-p.result c.ltp_prediction-p.type_inv, c.ltp_prediction-p.ensures)
-    (ltp_value a.past.now a.t3 a.res.now a.idx a.lag i h k c.loop-i.past c.loop-i.res c.requires.0 (omega arith) c.loop-i.invariant.4 c.loop-i.invariant.5)) in (
+    (ltp_value a.past.now a.taps a.res.now a.idx a.lag i h k c.loop-i.past c.loop-i.res c.requires.0 (omega arith) c.loop-i.invariant.4 c.loop-i.invariant.5)) in (
       search rules,
       search rules,
       search rules,
       search rules,
-      rw (e, add-one, kept w32 c.shl32.result c.shl32.type_inv, c.shl32.ensures, x) (ltp_past-turn a.past.now a.t3 a.res.now a.idx a.lag i h k c.loop-i.past c.loop-i.invariant.4),
-      rw (add-one, x) (ltp_res_turn a.past.now a.t3 a.res.now a.idx a.lag i h k c.loop-i.res c.loop-i.invariant.5),
+      rw (e, add-one, kept w32 c.shl32.result c.shl32.type_inv, c.shl32.ensures, x) (ltp_past-turn a.past.now a.taps a.res.now a.idx a.lag i h k c.loop-i.past c.loop-i.invariant.4),
+      rw (add-one, x) (ltp_res_turn a.past.now a.taps a.res.now a.idx a.lag i h k c.loop-i.res c.loop-i.invariant.5),
     )
 
 pub returns : goal.returns

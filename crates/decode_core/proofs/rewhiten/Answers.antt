@@ -15,7 +15,7 @@ slice_bounds-weigh-end-2 c =
     let start = a.idx - a.lag - 2 - a.d in
     let n = ap length c.silence-residual.ensures ∙ length-replicate 480 (pos 0) in
     let k = ap length c.silk_lpc_analysis_filter.ensures ∙ length_stretch a.out_buf.now a.row.now a.d start a.idx (omega arith) (omega arith) in
-    omega (arith, length_mid start (a.idx - start) c.silence-residual.result c.silk_lpc_analysis_filter.new.0 k (omega arith))
+    omega (arith, length_mid start (a.idx - start) c.silence-residual.result c.silk_lpc_analysis_filter.new.out k (omega arith))
 
 pub returns : goal.returns
 returns c =

@@ -30,8 +30,8 @@ slice_bounds-long_term-end-2 c =
 pub long_term-idx-requires : goal.long_term-idx-requires
 long_term-idx-requires c =
     let p = c.requires.0 in
-    let s = c.load.new.0 in
-    let n : length s ≡ 16 + c.args.f.subfr_length = c.load.auto.0 ∙ c.requires.2 in (
+    let s = c.load.new.signal in
+    let n : length s ≡ 16 + c.args.f.subfr_length = c.load.auto.signal ∙ c.requires.2 in (
       (λ w. record { sized = p.sized; place = p.place; lag = rw c.control_at-c.ensures (p.lag w); low = p.low; high = p.high }),
       length-take-le (c.args.f.subfr_length * c.args.k) c.args.xq.now (omega (arith, c.requires.5)),
       c.requires.4,
@@ -48,21 +48,21 @@ offset_bounds-xq-at c =
 
 pub lpc_synthesis-requires : goal.lpc_synthesis-requires
 lpc_synthesis-requires c =
-    let s = c.load.new.0 in
+    let s = c.load.new.signal in
     let N = c.args.f.subfr_length in
     let at = N * c.args.k in
-    let n : length s ≡ 16 + N = c.load.auto.0 ∙ c.requires.2 in
-    let k = c.long_term-idx.auto.1.1.1.1.1.1.1.1.1.0 ∙ length-take-le (length s - 16) (drop 16 s) (simp length-drop (omega arith)) in
+    let n : length s ≡ 16 + N = c.load.auto.signal ∙ c.requires.2 in
+    let k = c.long_term-idx.auto.res ∙ length-take-le (length s - 16) (drop 16 s) (simp length-drop (omega arith)) in
     let x = length-take-le (at + N - at) (drop at c.args.xq.now) (simp length-drop (omega (arith, c.requires.5))) in
-    (c.requires.0.sized.order, length_mid 16 (length s - 16) s c.long_term-idx.new.1.1.1.1.1.1.1.1.1.0 k (omega arith) ∙ omega arith)
+    (c.requires.0.sized.order, length_mid 16 (length s - 16) s c.long_term-idx.new.res k (omega arith) ∙ omega arith)
 
 pub shape_of-signal : goal.shape_of-signal
 shape_of-signal c =
-    let s = c.load.new.0 in
-    let n = c.load.auto.0 in
+    let s = c.load.new.signal in
+    let n = c.load.auto.signal in
     let h : 16 ≤ length s = omega (arith, c.requires.2) in
-    let k = c.long_term-idx.auto.1.1.1.1.1.1.1.1.1.0 ∙ length-take-le (length s - 16) (drop 16 s) (simp length-drop (omega arith)) in
-    c.lpc_synthesis.auto.0 ∙ length_mid 16 (length s - 16) s c.long_term-idx.new.1.1.1.1.1.1.1.1.1.0 k (omega arith) ∙ n
+    let k = c.long_term-idx.auto.res ∙ length-take-le (length s - 16) (drop 16 s) (simp length-drop (omega arith)) in
+    c.lpc_synthesis.auto.signal ∙ length_mid 16 (length s - 16) s c.long_term-idx.new.res k (omega arith) ∙ n
 
 pub returns : goal.returns
 returns c =
@@ -71,19 +71,19 @@ returns c =
     let N = f.subfr_length in
     let at = N * k in
     let xq = c.args.xq.now in
-    let s = c.load.new.0 in
-    let res = c.long_term-idx.new.1.1.1.1.1.1.1.1.1.0 in
-    let out = c.lpc_synthesis.new.1.1.1.1.0 in
+    let s = c.load.new.signal in
+    let res = c.long_term-idx.new.res in
+    let out = c.lpc_synthesis.new.xq in
     let z = get_or c.control_at-c.result.gains_q16 k (pos 0) in
     let after : Carried = record { control = c.control_at-c.result; gain = to_z w32 (of_z w32 z); idx = c.long_term-idx.result } in
-    let n : length s ≡ 16 + N = c.load.auto.0 ∙ c.requires.2 in
+    let n : length s ≡ 16 + N = c.load.auto.signal ∙ c.requires.2 in
     let q : take (length s - 16) (drop 16 s) ≡ drop 16 s = take_all (length s - 16) (drop 16 s) (simp length-drop (omega arith)) in
     let x : length (take (at + N - at) (drop at xq)) ≡ N = length-take-le (at + N - at) (drop at xq) (simp length-drop (omega (arith, c.requires.5))) ∙ omega arith in
-    let y : length out ≡ N = c.lpc_synthesis.auto.1.1.1.1.0 ∙ x in
+    let y : length out ≡ N = c.lpc_synthesis.auto.xq ∙ x in
     let h = rw q at c.long_term-idx.ensures in
     let adj = kept w32 c.gain_adjustment-adj.result c.gain_adjustment-adj.type_inv ∙ c.gain_adjustment-adj.ensures ∙ ap (λ (i : ℤ). gain_adjustment i (to_z w32 (of_z w32 z))) (kept w32 c.args.b.gain c.struct_told-1.given.1.0.1) in (
       rw (part-front at N xq out y c.requires.5)
-          (one_more f c.args.t3 c.args.exc.now k c.args.b after (get_or c.args.t3 (k / 2) []) (to_z w32 (of_z w32 c.gain_adjustment-adj.result)) c.args.past.now c.long_term-idx.new.1.1.1.1.1.1.1.0 c.args.signal.now s (put_mid 16 (length s - 16) s res) c.lpc_synthesis.new.0 c.args.out_buf.now c.long_term-idx.new.1.1.1.1.1.1.0 (take at xq) res out
+          (one_more f c.args.rows c.args.exc.now k c.args.b after (get_or c.args.rows (k / 2) []) (to_z w32 (of_z w32 c.gain_adjustment-adj.result)) c.args.past.now c.long_term-idx.new.past c.args.signal.now s (put_mid 16 (length s - 16) s res) c.lpc_synthesis.new.signal c.args.out_buf.now c.long_term-idx.new.out_buf (take at xq) res out
           c.control_at-c.ensures
           refl
           (kept w32 z c.gain-1.given)

@@ -33,11 +33,11 @@ loop-k-preserved c =
     let l = c.loop-k in
     let a = c.args in (
       search rules,
-      m.auto.1.1.1.1.1.0 ∙ l.invariant.1,
-      m.auto.1.1.1.1.1.1.0 ∙ l.invariant.2,
-      m.auto.1.1.1.1.1.1.1.0 ∙ l.invariant.3,
-      m.auto.1.1.1.1.1.1.1.1.0 ∙ l.invariant.4,
-      rw add-one (went a.f a.rows a.exc.now a.n a.b a.signal.now a.past.now a.out_buf.now a.xq.now l.k l.t m.result l.signal l.past l.out_buf l.xq m.new.1.1.1.1.1.0 m.new.1.1.1.1.1.1.0 m.new.1.1.1.1.1.1.1.0 m.new.1.1.1.1.1.1.1.1.0 l.invariant.5 m.ensures.0 m.ensures.1 m.ensures.2 m.ensures.3),
+      m.auto.signal ∙ l.invariant.1,
+      m.auto.past ∙ l.invariant.2,
+      m.auto.out_buf ∙ l.invariant.3,
+      m.auto.xq ∙ l.invariant.4,
+      rw add-one (went a.f a.rows a.exc.now a.n a.b a.signal.now a.past.now a.out_buf.now a.xq.now l.k l.t m.result l.signal l.past l.out_buf l.xq m.new.signal m.new.past m.new.out_buf m.new.xq l.invariant.5 m.ensures.0 m.ensures.1 m.ensures.2 m.ensures.3),
     )
 
 pub returns : goal.returns

@@ -43,7 +43,7 @@ loss c =
     ∙ eq_ℤ_ne (pos (nat_abs s.loss_cnt + 1)) (pos 0) (λ e. let z : nat_abs s.loss_cnt + 1 ≡ 0 = ap nat_abs e in omega arith)
 
 -- the frame before a squelch
-whole : (c : After-finished-u) → let s = c.args.s in ◌≡◌ {A = Outcome} (record { state = c.finished-u.result; control = c.plc_conceal-o.result.control; samples = c.finished-u.new.1.1.0 }) (lost (shape_of s) s c.args.c)
+whole : (c : After-finished-u) → let s = c.args.s in ◌≡◌ {A = Outcome} (record { state = c.finished-u.result; control = c.plc_conceal-o.result.control; samples = c.finished-u.new.xq }) (lost (shape_of s) s c.args.c)
 unfolding lost remembered plc_conceal
 whole c =
     let f = c.finished-u in
@@ -88,9 +88,9 @@ unfolding muted
 returns c =
     let m = c.mute in
     let q = c.squelched in
-    let y = c.finished-u.new.1.1.0 in
+    let y = c.finished-u.new.xq in
     let n : length y ≡ frame_length (shape_of c.args.s) = omega (arith, c.finished-u.auto, c.plc_conceal-o.auto, c.requires.2) in
-    let z : m.new.1.0 ≡ cond (squelched c.args.s) (replicate (frame_length (shape_of c.args.s)) (pos 0)) y =
+    let z : m.new.xq ≡ cond (squelched c.args.s) (replicate (frame_length (shape_of c.args.s)) (pos 0)) y =
     m.ensures ∙ λ i. cond (q.ensures i) (replicate (n i) (pos 0)) y in
     (λ i. record { state = c.finished-u.result; control = c.plc_conceal-o.result.control; samples = z i })
     ∙ ap (muted (shape_of c.args.s) (squelched c.args.s)) (whole c.before.before.before.before.before)

@@ -66,9 +66,9 @@ memory_length c = ap (λ f. f.ltp_mem_length) c.setting_of-f.ensures
 
 -- what the core leaves, as its definition has it
 core : (c : After-decode_core-r) →  let a = c.args in let u = c.decode_core-r in let l = lined (shape_of a.s) a.s a.lines in let d = decode_core (shape_of a.s) l a.q a.c a.rows a.pulses.now in
-    (with_out_buf (with_memory (with_exc (with_gain l u.result.gain) u.new.1.1.1.1.1.1.0) u.new.1.1.1.1.1.1.1.0) u.new.1.1.1.1.1.1.1.1.0 ≡ d.state)
+    (with_out_buf (with_memory (with_exc (with_gain l u.result.gain) u.new.exc) u.new.memory) u.new.out_buf ≡ d.state)
     × (u.result.control ≡ d.control)
-    × (u.new.1.1.1.1.1.1.1.1.1.0 ≡ d.samples)
+    × (u.new.xq ≡ d.samples)
 unfolding lined setting_of transition
 core c =
     let a = c.args in
@@ -76,17 +76,17 @@ core c =
     let l = lined (shape_of a.s) a.s a.lines in
     let hg = kept w32 a.s.prev_gain_q16 c.struct_told-3-1.given.0.1 in
     let first : Carried = record { control = a.c; gain = to_z w32 (of_z w32 a.s.prev_gain_q16); idx = c.setting_of-f.result.ltp_mem_length } in
-    let exc = u.new.1.1.1.1.1.1.0 in
-    let memory = u.new.1.1.1.1.1.1.1.0 in
-    let ob = u.new.1.1.1.1.1.1.1.1.0 in
-    let xq = u.new.1.1.1.1.1.1.1.1.1.0 in (
+    let exc = u.new.exc in
+    let memory = u.new.memory in
+    let ob = u.new.out_buf in
+    let xq = u.new.xq in (
       decoded_state l a.q a.c a.rows a.pulses.now c.setting_of-f.result c.count_of-count.result exc first u.result memory ob xq a.xq.now c.setting_of-f.ensures (count c.before.before.before.before.before.before.before.before.before.before) u.ensures.0 refl hg u.ensures.1,
       decoded_control l a.q a.c a.rows a.pulses.now c.setting_of-f.result c.count_of-count.result exc first u.result memory ob xq a.xq.now c.setting_of-f.ensures (count c.before.before.before.before.before.before.before.before.before.before) u.ensures.0 refl hg u.ensures.1,
       decoded-samples l a.q a.c a.rows a.pulses.now c.setting_of-f.result c.count_of-count.result exc first u.result memory ob xq a.xq.now c.setting_of-f.ensures (count c.before.before.before.before.before.before.before.before.before.before) u.ensures.0 refl hg u.ensures.1 ∙ all_samples _ _ _ c.requires.3,
     )
 
 -- the length of what was played
-played : (c : After-decode_core-r) → length c.decode_core-r.new.1.1.1.1.1.1.1.1.1.0 ≡ frame_length (shape_of c.args.s)
+played : (c : After-decode_core-r) → length c.decode_core-r.new.xq ≡ frame_length (shape_of c.args.s)
 played c = omega (arith, c.decode_core-r.auto, c.requires.3)
 
 -- what concealment holds after the frame
@@ -157,10 +157,10 @@ returns c =
     let p = shape_of s in
     let signal = a.q.signal in
     let d = c.decode_core-r in
-    let x = d.new.1.1.1.1.1.1.1.1.1.0 in
-    let exc = d.new.1.1.1.1.1.1.0 in
-    let memory = d.new.1.1.1.1.1.1.1.0 in
-    let ob = d.new.1.1.1.1.1.1.1.1.0 in
+    let x = d.new.xq in
+    let exc = d.new.exc in
+    let memory = d.new.memory in
+    let ob = d.new.out_buf in
     let t = with_out_buf (with_memory (with_exc (with_gain (lined p s a.lines) d.result.gain) exc) memory) ob in
     let gain = kept w32 d.result.gain c.struct_told-4-1.given.1.0.1 in
     let history : c.update_out_buf-history.result ≡ update_out_buf ob (mem_length p) x = c.update_out_buf-history.ensures ∙ ap (λ m. update_out_buf ob m x) (memory_length c.before.before.before.before.before.before.before.before.before.before.before.before.before.before.before.before.before.before.before.before.before.before.before.before.before.before.before.before.before.before.before.before.before.before) in
@@ -171,7 +171,7 @@ returns c =
     rw (c.received-s_cng.ensures, khz c.before.before.before.before.before.before.before.before.before.before.before.before.before.before.before.before.before.before.before.before.before.before.before.before.before.before.before.before.before.before.before.before.before.before.before.before.before, nb c.before.before.before.before.before.before.before.before.before.before.before.before.before.before.before.before.before.before.before.before.before.before.before.before.before.before.before.before.before.before.before.before.before.before.before.before, lines, kind) in
     let plc = c.receive-s_plc.ensures.0 ∙ ap (λ c.before.before.before.before.before.before.before.before.before.before.before.before.before.before. hold_energy c.before.before.before.before.before.before.before.before.before.before.before.before.before.before (pos 0) c.conc_energy c.conc_energy_shift) (updated c.before.before.before.before.before.before.before.before.before.before.before.before) in
     let q : SilkPLCState → List ℤ = λ (c.before.before.before.before.before.before.before.before.before.before.before.before.before.before : SilkPLCState). cond (eq_ℤ c.last_frame_lost (pos 0)) x (joined c.conc_energy c.conc_energy_shift x) in
-    let one : ◌≡◌ {A = Outcome} (record { state = _; control = d.result.control; samples = c.receive-s_plc.new.1.0 }) (heard p t d.result.control x signal a.rows) =
+    let one : ◌≡◌ {A = Outcome} (record { state = _; control = d.result.control; samples = c.receive-s_plc.new.frame }) (heard p t d.result.control x signal a.rows) =
     λ i. record {
       state = record {
         prev_gain_q16 = gain i;
