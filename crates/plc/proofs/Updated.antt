@@ -144,7 +144,7 @@ module _ (p : Shape) (h : SilkPLCState) (s : Shaped p.rate p.subframes) (b : Plc
         let q = pulsed p c (plc_ready p h).pitch_l_q8 s.rate_high (omega (arith, s.count_low)) g.1.pitch_l_q8 voiced fl ft in
         record {
           last_frame_lost = g.0.last_frame_lost;
-          ltp_coef_q14 = record { first = refl; second = refl; low = q.tap-fits.low; high = q.tap-fits.high; fourth = refl; fifth = refl };
+          ltp_coef_q14 = record { first = refl; second = refl; low = q.tap_fits.low; high = q.tap_fits.high; fourth = refl; fifth = refl };
           rand_scale_q14 = g.0.rand_scale_q14;
           prev_ltp_scale_q14 = scale;
           conc_energy = g.0.conc_energy;

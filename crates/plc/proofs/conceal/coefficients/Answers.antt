@@ -3,4 +3,4 @@ use borrow.Author.Rules.{rules}
 use Rattle.plc.proofs.conceal.coefficients.Goals as goal
 
 pub returns : goal.returns
-returns c = rw (c.silk_bwexpander.ensures, c.held_coefficients-a.ensures, to_z-of_z c.ranges.«first-frame-after-reset»)
+returns c = rw (c.silk_bwexpander.ensures, c.held_coefficients-a.ensures, to_z-of_z c.ranges.first_frame_after_reset)

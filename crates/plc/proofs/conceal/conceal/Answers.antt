@@ -34,12 +34,12 @@ voice-k-requires c =
 
 pub overflow_mul-subfr_length : goal.overflow_mul-subfr_length
 overflow_mul-subfr_length c =
-    rw (sub c) (record { fits = omega (arith, c.requires.8, rate_le c.args.khz) })
+    rw (sub (goal.at.overflow_mul-subfr_length c).After-subfr_length) (record { fits = omega (arith, c.requires.8, rate_le c.args.khz) })
 
 pub synthesise-after-requires : goal.synthesise-after-requires
 synthesise-after-requires c =
     let r = rate_le c.args.khz in
-    rw (mem c.before.before.before, sub c.before.before)
+    rw (mem (goal.at.synthesise-after-requires c).After-ltp_mem_length, sub (goal.at.synthesise-after-requires c).After-subfr_length)
     (c.requires.1, omega (arith, c.requires.4), omega (arith, c.requires.4, c.requires.7), search rules, omega (arith, c.requires.8), c.requires.9)
 
 pub returns : goal.returns
@@ -50,15 +50,15 @@ returns c =
     let p : Shape = record { rate = r; subframes = a.n } in
     let len = 5 * r * a.n in
     let k = c.voice-k.result in
-    let e = rw (to_z-of_z c.ranges.«loss-cnt», to_z-of_z c.ranges.«prev-signal-type», to_z-of_z c.ranges.edition, to_z-of_z c.ranges.khz) at c.voice-k.ensures in
+    let e = rw (to_z-of_z c.ranges.loss_cnt, to_z-of_z c.ranges.prev_signal_type, to_z-of_z c.ranges.edition, to_z-of_z c.ranges.khz) at c.voice-k.ensures in
     let o : a.d ≡ order_of r = c.requires.2 in
     let g = kept w32 (get_or a.h.prev_gain_q16 1 (pos 0)) c.synthesise-arg-1.given in
     let f = got w32 c.lag_of.type_inv c.lag_of.ensures ∙ ap lag_of (kept w32 k.pitch_q8 c.struct_told-1.given.1.1.0.1) in
-    let x = rw (mem c.before.before.before.before.before.before.before.before.before, sub c.before.before.before.before.before.before.before.before) at c.synthesise-after.ensures.0 in
-    let z = rw (mem c.before.before.before.before.before.before.before.before.before, sub c.before.before.before.before.before.before.before.before) at c.synthesise-after.ensures.1 in
-    let memory = x ∙ (λ i. drop len (synthesis a.memory (drop (20 * r) (e i).past) a.t4 (o i) len)) in
-    let held = c.held_after-plc.ensures ∙ (λ i. held_by (e i) a.t4 a.h) in
+    let x = rw (mem (goal.at.returns c).After-ltp_mem_length, sub (goal.at.returns c).After-subfr_length) at c.synthesise-after.ensures.0 in
+    let z = rw (mem (goal.at.returns c).After-ltp_mem_length, sub (goal.at.returns c).After-subfr_length) at c.synthesise-after.ensures.1 in
+    let memory = x ∙ (λ i. drop len (synthesis a.memory (drop (20 * r) (e i).past) a.a (o i) len)) in
+    let held = c.held_after-plc.ensures ∙ (λ i. held_by (e i) a.a a.h) in
     let lag = f ∙ (λ i. lag_of (e i).pitch) in (
       λ i. record { plc = held i; memory = memory i; lag = lag i },
-      z ∙ (λ i. map (played (g i)) (drop 16 (synthesis a.memory (drop (20 * r) (e i).past) a.t4 (o i) len)) ++ drop len a.xq.now),
+      z ∙ (λ i. map (played (g i)) (drop 16 (synthesis a.memory (drop (20 * r) (e i).past) a.a (o i) len)) ++ drop len a.xq.now),
     )

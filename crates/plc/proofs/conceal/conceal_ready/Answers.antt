@@ -44,11 +44,11 @@ conceal-requires c =
     let p = c.requires in
     let r = rate_of a.khz in
     let b = plc_held-bounds r a.h p.9 in
-    let l = excitation-length c.before.before.before.before.before.before.before.before.before.before.before.before.before.before.before in
-    let m : length a.s.out_buf ≡ 480 = sym (slice-aggregate-conceal-2 c.before.before.before.before) in
+    let l = excitation-length (goal.at.conceal-requires c).Start in
+    let m : length a.s.out_buf ≡ 480 = search rules in
     let q : Shape = record { rate = r; subframes = a.n } in
     rw (to_z-of_z c.ranges.khz)
-    (rw (place_is c.before.before.before.before.before.before.before, l) (noise_room q a.s a.h (rate_le a.khz) (subframes-fit r _ _ b.subframes)), p.0, p.1, p.2, p.3, p.5, m, p.6, p.7, p.8, between-back _ b.pitch_l_q8)
+    (rw (place_is (goal.at.conceal-requires c).After-place-from, l) (noise_room q a.s a.h (rate_le a.khz) (subframes-fit r _ _ b.subframes)), p.0, p.1, p.2, p.3, p.5, m, p.6, p.7, p.8, between-back _ b.pitch_l_q8)
 
 pub returns : goal.returns
 unfolding coefficients voice signal concealed
@@ -62,7 +62,7 @@ returns c =
     let es = rw ez at c.conceal.ensures.1 in
     let ea : c.coefficients-a.result ≡ coefficients q st h =
     c.coefficients-a.ensures ∙ rw (kept w32 st.first_frame_after_reset c.struct_told-1.given.1.1.1.1.1.1.1.1.1.1.1.1.0.1, c.requires.1) in
-    let ef = place_is c.before.before.before.before.before.before.before.before.before in
+    let ef = place_is (goal.at.returns c).After-place-from in
     let el = kept w32 st.loss_cnt c.struct_told-2-1.given.1.1.1.1.1.1.1.1.1.1.1.1.1.1.0.1 in
     let et = kept w32 st.prev_signal_type c.struct_told-3-1.given.1.1.1.1.1.1.1.1.1.1.1.1.1.1.1.0.1 in
     let ee = kept w32 st.settings.edition c.struct_told-4-1.given.1.0.1 in (

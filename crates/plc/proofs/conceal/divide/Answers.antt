@@ -36,4 +36,4 @@ loop-i-preserved c =
 pub returns : goal.returns
 returns c =
     let l = c.loop-i in
-    rw (l.invariant.3, le_antisymm l.invariant.1 c.loop-i-test.false, to_z-of_z c.ranges.«inv-gain-q30»)
+    rw (l.invariant.3, le_antisymm l.invariant.1 c.loop-i-test.false, to_z-of_z c.ranges.inv_gain_q30)

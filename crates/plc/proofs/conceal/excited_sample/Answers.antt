@@ -8,7 +8,7 @@ returns c =
     cc (
       to_z-of_z c.ranges.prediction,
       to_z-of_z c.ranges.noise,
-      to_z-of_z c.ranges.«scale-q14»,
+      to_z-of_z c.ranges.scale_q14,
       kept w32 c.wide16.result c.wide16.type_inv,
       kept w32 c.silk_smlawb.result c.silk_smlawb.type_inv,
       kept w32 c.shl32.result c.shl32.type_inv,

@@ -26,11 +26,11 @@ loop-j-preserved c =
       search rules,
       search rules,
       search rules,
-      turn a.t1 _ c.loop-j.j c.loop-j.b _ (omega arith) c.loop-j.invariant.4 (got w16 c.faded.type_inv (c.faded.ensures ∙ rw (kept w16 (get_or a.t1 c.loop-j.j (pos 0)) c.faded-arg-1.given))),
+      turn a.taps _ c.loop-j.j c.loop-j.b _ (omega arith) c.loop-j.invariant.4 (got w16 c.faded.type_inv (c.faded.ensures ∙ rw (kept w16 (get_or a.taps c.loop-j.j (pos 0)) c.faded-arg-1.given))),
     )
 
 pub returns : goal.returns
 returns c =
     let l = c.loop-j in
-    rw (l.invariant.4, le_antisymm l.invariant.0 c.loop-j-test.false, to_z-of_z c.ranges.gain, filled (tabulate 5 (λ (k : ℕ). faded c.args.gain (get_or c.args.t1 k (pos 0)))) c.args.t1 5 (omega arith))
-    (rw l.invariant.2 at (map-table (faded c.args.gain) c.args.t1))
+    rw (l.invariant.4, le_antisymm l.invariant.0 c.loop-j-test.false, to_z-of_z c.ranges.gain, filled (tabulate 5 (λ (k : ℕ). faded c.args.gain (get_or c.args.taps k (pos 0)))) c.args.taps 5 (omega arith))
+    (rw l.invariant.2 at (map-table (faded c.args.gain) c.args.taps))

@@ -18,7 +18,7 @@ use Rattle.plc.proofs.conceal.faded_taps.Given as goal
 abbrev pub invariant-loop-j : goal.invariant-loop-j
 invariant-loop-j l =
     (l.j ≤ 5) × (length l.b ≡ 5) × (length l.taps ≡ 5) × (length l.initial.b ≡ 5)
-    × (l.b ≡ tabulate l.j (λ (k : ℕ). faded (to_z w32 l.gain) (get_or l.taps k (pos 0))) ++ drop l.j l.initial.b)
+    × (l.b ≡ tabulate l.j (λ (k : ℕ). faded l.gain (get_or l.taps k (pos 0))) ++ drop l.j l.initial.b)
 
 abbrev pub decreases-loop-j : goal.decreases-loop-j
 decreases-loop-j l = 5 - l.j

@@ -7,4 +7,4 @@ use Rattle.plc.proofs.conceal.harm_gain.Goals as goal
 
 pub returns : goal.returns
 unfolding harm_gain
-returns c = rw (got w32 c.by_loss.type_inv c.by_loss.ensures, to_z-of_z c.ranges.«loss-cnt»)
+returns c = rw (got w32 c.by_loss.type_inv c.by_loss.ensures, to_z-of_z c.ranges.loss_cnt)

@@ -6,8 +6,8 @@ use Rattle.plc.proofs.conceal.held_coefficients.Goals as goal
 
 pub returns-then-first_frame_after_reset-eq0 : goal.returns-then-first_frame_after_reset-eq0
 returns-then-first_frame_after_reset-eq0 c =
-    rw (is w32 _ 0 (lit< tt) c.ranges.«first-frame-after-reset» c.if-first_frame_after_reset-eq0.true)
+    rw (is w32 _ 0 (lit< tt) c.ranges.first_frame_after_reset c.if-first_frame_after_reset-eq0.true)
 
 pub returns : goal.returns
 returns c =
-    rw (isnt w32 c.args.«first-frame-after-reset» 0 c.if-first_frame_after_reset-eq0.false) c.«no-coefficients».ensures
+    rw (isnt w32 c.args.first_frame_after_reset 0 c.if-first_frame_after_reset-eq0.false) c.no_coefficients.ensures

@@ -6,7 +6,7 @@ use Rattle.plc.proofs.conceal.limited_gain.Goals as goal
 pub returns : goal.returns
 returns c =
     cc (
-      to_z-of_z c.ranges.«inv-gain-q30»,
+      to_z-of_z c.ranges.inv_gain_q30,
       kept w32 c.silk_min_32.result c.silk_min_32.type_inv,
       kept w32 c.silk_max_32.result c.silk_max_32.type_inv,
       kept w32 c.shl32.result c.shl32.type_inv,

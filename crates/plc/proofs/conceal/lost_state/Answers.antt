@@ -6,7 +6,7 @@ use lib.IntN.{ℤ, pos, negsuc, nat_abs, ◌+ℤ◌, pos-ne-negsuc}
 use lib.Signed.{mag}
 use mir.Syntax.{w32}
 use Rattle.word.specs.Int.{wrap32, eq_ℤ}
-use Rattle.word.proofs.Words.{kept}
+use Rattle.word.proofs.Words.{kept, got}
 use Rattle.decoder.specs.With.{with_memory, with_losses, with_plc}
 use Rattle.decoder.proofs.Between.{natural}
 use Rattle.plc.proofs.Ready.{one_more}
@@ -24,5 +24,5 @@ returns c =
     let told = c.struct_told-1.given.1.1.1.1.1.1.1.1.1.1.1.1.1.1.0.1 in
     let n : z ≡ pos (nat_abs z) = natural z c.requires.0 in
     let m : wrap32 (z +ℤ pos 1) ≡ z +ℤ pos 1 = less z n told c.requires.1 in
-    let e : c.add32.result ≡ z +ℤ pos 1 = c.add32.ensures ∙ rw (kept w32 z told) m in
+    let e = got w32 c.add32.type_inv (c.add32.ensures ∙ rw (kept w32 z told) m) in
     λ i. with_plc (with_losses (with_memory s c.args.r.memory) (e i)) c.args.r.plc

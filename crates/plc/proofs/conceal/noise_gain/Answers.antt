@@ -14,15 +14,15 @@ use Rattle.plc.proofs.conceal.noise_gain.Goals as goal
 pub returns-in-2 : goal.returns-in-2
 unfolding noise_gain
 returns-in-2 c =
-    rw (is w32 _ 2 (lit< tt) c.ranges.«prev-signal-type» c.in-2.keys1, got w32 c.by_loss.type_inv c.by_loss.ensures, to_z-of_z c.ranges.«loss-cnt»)
+    rw (is w32 _ 2 (lit< tt) c.ranges.prev_signal_type c.in-2.in-2-own.keys1, got w32 c.by_loss.type_inv c.by_loss.ensures, to_z-of_z c.ranges.loss_cnt)
 
 pub returns-then-loss_cnt-eq0 : goal.returns-then-loss_cnt-eq0
 unfolding noise_gain
 returns-then-loss_cnt-eq0 c =
     let g = inverse_gain_lem c.args.edition (take c.args.d c.args.a.now) in
     rw (
-      isnt w32 c.args.«prev-signal-type» 2 c.in-2.rest.1,
-      is w32 _ 0 (lit< tt) c.ranges.«loss-cnt» c.if-loss_cnt-eq0.true,
+      isnt w32 c.args.prev_signal_type 2 c.in_default.in_default-own.rest.1,
+      is w32 _ 0 (lit< tt) c.ranges.loss_cnt c.if-loss_cnt-eq0.true,
       got w32 c.limited_gain.type_inv c.limited_gain.ensures,
       got w32 c.inverse_pred_gain.type_inv c.inverse_pred_gain.ensures,
       to_z-of_z c.ranges.edition,
@@ -33,4 +33,4 @@ returns-then-loss_cnt-eq0 c =
 pub returns-else-loss_cnt-eq0 : goal.returns-else-loss_cnt-eq0
 unfolding noise_gain
 returns-else-loss_cnt-eq0 c =
-    rw (isnt w32 c.args.«prev-signal-type» 2 c.in-2.rest.1, isnt w32 c.args.«loss-cnt» 0 c.if-loss_cnt-eq0.false)
+    rw (isnt w32 c.args.prev_signal_type 2 c.in_default.in_default-own.rest.1, isnt w32 c.args.loss_cnt 0 c.if-loss_cnt-eq0.false)

@@ -18,9 +18,9 @@ index : (c : After-shr32) → to_z w32 (bit_and (of_z w32 c.shr32.result) 127) �
 index c = low_word w32 w32 25 7 c.shr32.result refl tt (record { sfits = c.shr32.type_inv })
 
 pub overflow_cast-result : goal.overflow_cast-result
-overflow_cast-result c = rw (index c) (tt, omega (arith, mod_ℤ_lt c.shr32.result 128 (lit< tt)))
+overflow_cast-result c = rw (index (goal.at.overflow_cast-result c).After-shr32) (tt, omega (arith, mod_ℤ_lt c.shr32.result 128 (lit< tt)))
 
 pub returns : goal.returns
 returns c =
     let e : c.shr32.result ≡ floor_div c.args.seed (2 ^ 25) = c.shr32.ensures ∙ rw (to_z-of_z c.ranges.seed) in
-    rw (index c, e) (refl, mod_ℤ_lt (floor_div c.args.seed (2 ^ 25)) 128 (lit< tt))
+    rw (index (goal.at.returns c).After-shr32, e) (refl, mod_ℤ_lt (floor_div c.args.seed (2 ^ 25)) 128 (lit< tt))

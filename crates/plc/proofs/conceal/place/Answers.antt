@@ -30,22 +30,22 @@ size c = kept w32 _ c.struct_told-2-1.given.1.1.1.1.1.1.1.1.1.1.1.1.0.1
 
 pub overflow_cast-h : goal.overflow_cast-h
 overflow_cast-h c =
-    let g = numbers c.before.before.before.before in
-    rw (nb c, g.count) (tt, omega (arith, g.count_high))
+    let g = numbers (goal.at.overflow_cast-h c).Start in
+    rw (nb (goal.at.overflow_cast-h c).After-struct_told-1, g.count) (tt, omega (arith, g.count_high))
 
 pub overflow_cast-h-2 : goal.overflow_cast-h-2
 overflow_cast-h-2 c =
-    let g = numbers c.before.before.before.before.before.before in
-    rw (size c, g.length) (tt, omega (arith, g.length_high))
+    let g = numbers (goal.at.overflow_cast-h-2 c).Start in
+    rw (size (goal.at.overflow_cast-h-2 c).After-struct_told-2-1, g.length) (tt, omega (arith, g.length_high))
 
 pub noise_place-requires : goal.noise_place-requires
 noise_place-requires c =
-    let g = numbers c.before.before.before.before.before.before in
+    let g = numbers (goal.at.noise_place-requires c).Start in
     let r = rate_le c.args.khz in
-    rw (sub c.before.before.before.before, nb c.before.before, size c)
+    rw (sub (goal.at.noise_place-requires c).After-subfr_length, nb (goal.at.noise_place-requires c).After-struct_told-1, size (goal.at.noise_place-requires c).After-struct_told-2-1)
     (omega (arith, c.requires.0), omega arith, c.requires.1, c.requires.2, omega (arith, g.count_low), g.count_high, g.length_high, c.requires.3)
 
 pub returns : goal.returns
 returns c =
-    let g = numbers c.before.before.before.before.before.before.before in
-    rw (c.noise_place.ensures, sub c.before.before.before.before.before, nb c.before.before.before, size c.before, ← g.count, ← g.length)
+    let g = numbers (goal.at.returns c).Start in
+    rw (c.noise_place.ensures, sub (goal.at.returns c).After-subfr_length, nb (goal.at.returns c).After-struct_told-1, size (goal.at.returns c).After-struct_told-2-1, ← g.count, ← g.length)

@@ -25,14 +25,14 @@ count : (c : After-count_of-n) → c.count_of-n.result ≡ count_of c.args.s.nb_
 count c = c.count_of-n.ensures ∙ ap count_of (kept w32 _ c.struct_told-2-1.given.1.1.1.1.1.1.0.1)
 
 readied : (c : After-ready-h) → let s = c.args.s in c.ready-h.result ≡ plc_ready (shape_of s) s.s_plc
-readied c = c.ready-h.ensures ∙ rw (khz c.before.before.before.before, count c.before.before)
+readied c = c.ready-h.ensures ∙ rw (khz c.before.before.before.before.before.before, count c.before.before)
 
 order : (c : After-lpc_order) → c.lpc_order.result ≡ order_of (rate_of c.args.s.fs_khz)
-order c = c.lpc_order.ensures ∙ rw (khz c.before.before.before.before.before)
+order c = c.lpc_order.ensures ∙ rw (khz c.before.before.before.before.before.before.before)
 
 pub ready-h-requires : goal.ready-h-requires
 ready-h-requires c =
-    rw (count c.before) (count_le c.args.s.nb_subfr)
+    rw (count (goal.at.ready-h-requires c).After-count_of-n) (count_le c.args.s.nb_subfr)
 
 pub conceal_ready-r-requires : goal.conceal_ready-r-requires
 conceal_ready-r-requires c =
@@ -40,7 +40,7 @@ conceal_ready-r-requires c =
     let e = rates s.fs_khz c.requires.0 in
     let g = shape-bounds e (counts s.nb_subfr c.requires.1) in
     let d = orders e in
-    rw (order c.before, readied c.before.before, count c.before.before.before.before, khz c.before.before.before.before.before.before)
+    rw (order (goal.at.conceal_ready-r-requires c).After-lpc_order, readied (goal.at.conceal_ready-r-requires c).After-ready-h, count (goal.at.conceal_ready-r-requires c).After-count_of-n, khz (goal.at.conceal_ready-r-requires c).After-struct_told-1)
     (d.0, refl, d.1, g.rate_low, g.count_low, g.count_high, g.frame_low, g.frame_high, c.requires.5, plc_held-fits (rate_of s.fs_khz) _ (ready_held (shape_of s) s.s_plc g (plc_bounds (rate_of s.fs_khz) s.s_plc c.requires.2)))
 
 pub lost_state-state-requires : goal.lost_state-state-requires
@@ -51,8 +51,8 @@ pub returns : goal.returns
 unfolding signal held_after concealed_by plc_conceal
 returns c =
     let s = c.args.s in
-    let e = rw (readied c.before.before.before.before.before.before.before, count c.before.before.before.before.before.before.before.before.before, khz c.before.before.before.before.before.before.before.before.before.before.before) at c.conceal_ready-r.ensures.0 in
-    let f = rw (readied c.before.before.before.before.before.before.before, count c.before.before.before.before.before.before.before.before.before, khz c.before.before.before.before.before.before.before.before.before.before.before) at c.conceal_ready-r.ensures.1 in
+    let e = rw (readied (goal.at.returns c).After-ready-h, count (goal.at.returns c).After-count_of-n, khz (goal.at.returns c).After-struct_told-1) at c.conceal_ready-r.ensures.0 in
+    let f = rw (readied (goal.at.returns c).After-ready-h, count (goal.at.returns c).After-count_of-n, khz (goal.at.returns c).After-struct_told-1) at c.conceal_ready-r.ensures.1 in
     let state = c.lost_state-state.ensures
     ∙ (λ i. with_plc (with_losses (with_memory s (e i).memory) (s.loss_cnt +ℤ pos 1)) (e i).plc) in
     let control = c.lagged-control.ensures ∙ ap (lagged c.args.c) (kept w32 _ c.struct_told-3-1.given.1.1.0.1) ∙ (λ i. lagged c.args.c (e i).lag) in

@@ -16,5 +16,5 @@ divide-requires c =
 pub returns : goal.returns
 returns c =
     let a = c.args in
-    rw (c.divide.ensures, c.silk_lpc_analysis_filter.ensures, to_z-of_z c.ranges.«inv-gain-q30»)
-    (ap (λ (xs : List ℤ). xs ++ drop a.mem a.buf.now) (rewhitened-part c.no_samples-s_ltp.result a.«out-buf».now a.a.now a.«inv-gain-q30» a.d a.mem a.lag (omega arith) (omega arith) (search rules)))
+    rw (c.divide.ensures, c.silk_lpc_analysis_filter.ensures, to_z-of_z c.ranges.inv_gain_q30)
+    (ap (λ (xs : List ℤ). xs ++ drop a.mem a.buf.now) (rewhitened-part c.no_samples-s_ltp.result a.out_buf.now a.a.now a.inv_gain_q30 a.d a.mem a.lag (omega arith) (omega arith) (search rules)))

@@ -33,14 +33,14 @@ mem c = c.ltp_mem_length-mem.ensures ∙ rw (to_z-of_z c.ranges.khz)
 
 pub overflow_cast-lag : goal.overflow_cast-lag
 overflow_cast-lag c =
-    let b = in_range c in
-    rw (kept w32 c.lag_of-lag.result c.lag_of-lag.type_inv, lag_is c, b.is) (tt, omega (arith, b.high, rate_le c.args.khz))
+    let b = in_range (goal.at.overflow_cast-lag c).After-lag_of-lag in
+    rw (kept w32 c.lag_of-lag.result c.lag_of-lag.type_inv, lag_is (goal.at.overflow_cast-lag c).After-lag_of-lag, b.is) (tt, omega (arith, b.high, rate_le c.args.khz))
 
 pub rewhiten-requires : goal.rewhiten-requires
 rewhiten-requires c =
-    let b = in_range c.before.before.before.before in
+    let b = in_range (goal.at.rewhiten-requires c).After-lag_of-lag in
     let r = rate_le c.args.khz in
-    rw (kept w32 c.lag_of-lag.result c.lag_of-lag.type_inv, lag_is c.before.before.before.before, mem c.before.before.before)
+    rw (kept w32 c.lag_of-lag.result c.lag_of-lag.type_inv, lag_is (goal.at.rewhiten-requires c).After-lag_of-lag, mem (goal.at.rewhiten-requires c).After-ltp_mem_length-mem)
     (c.requires.0, omega (arith, b.high), omega arith, omega arith, omega arith, c.requires.5)
 
 pub returns : goal.returns
@@ -51,10 +51,10 @@ returns c =
     let e =
     rw (
       kept w32 c.lag_of-lag.result c.lag_of-lag.type_inv,
-      lag_is c.before.before.before.before.before.before,
+      lag_is (goal.at.returns c).After-lag_of-lag,
       got w32 c.inverse_gain.type_inv c.inverse_gain.ensures,
       kept w32 (get_or a.h.prev_gain_q16 1 (pos 0)) c.inverse_gain-arg-1.given,
-      mem c.before.before.before.before.before,
+      mem (goal.at.returns c).After-ltp_mem_length-mem,
       c.requires.1,
     ) at c.rewhiten.ensures in
     ap (take n) e ∙ take_at _ _ n (length-tabulate n _)

@@ -20,18 +20,18 @@ refused c = c.number.ensures ∙ ap refusal_number c.plc_lost-refusal.ensures
 pub returns-then-number-ne0 : goal.returns-then-number-ne0
 unfolding plc_lost_refusal plc_lost plc_lost_output
 returns-then-number-ne0 c =
-    let e = ne_eqb _ 0 (λ e. c.if-number-ne0.true (refused c.before ∙ e)) in
+    let e = ne_eqb _ 0 (λ e. c.if-number-ne0.true (refused (goal.at.returns-then-number-ne0 c).After-number ∙ e)) in
     (rw (c.plc_lost-refusal.ensures, e), rw e)
 
 pub plc_conceal-r-requires : goal.plc_conceal-r-requires
 plc_conceal-r-requires c =
     let a = c.args in
-    let f = plc_lost-fits a.s (length a.xq.now) (sym (refused c.before.before) ∙ c.if-number-ne0.false) in
+    let f = plc_lost-fits a.s (length a.xq.now) (sym (refused (goal.at.plc_conceal-r-requires c).After-number) ∙ c.if-number-ne0.false) in
     let b = bounds (rate_of a.s.fs_khz) a.s f.accepted in
     (b.sizes.rate, b.sizes.count, plc_fits_lem (rate_of a.s.fs_khz) a.s.s_plc b.plc, natural-back a.s.loss_cnt b.decoder.loss_cnt, f.not_full, f.output_lent)
 
 pub returns : goal.returns
 unfolding plc_lost_refusal plc_lost plc_lost_output
 returns c =
-    let e = eq-eqb _ 0 (sym (refused c.before.before.before.before.before.before) ∙ c.if-number-ne0.false) in
+    let e = eq-eqb _ 0 (sym (refused (goal.at.returns c).After-number) ∙ c.if-number-ne0.false) in
     (rw (c.plc_lost-refusal.ensures, e, c.plc_conceal-r.ensures.0), rw e c.plc_conceal-r.ensures.1)

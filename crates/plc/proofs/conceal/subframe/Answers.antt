@@ -36,13 +36,13 @@ sub c = c.subfr_length.ensures ∙ rw (to_z-of_z c.ranges.khz)
 
 pub overflow_cast-lag : goal.overflow_cast-lag
 overflow_cast-lag c =
-    let b = in_range c in
-    rw (kept w32 c.lag_of-lag.result c.lag_of-lag.type_inv, lag_is c, b.is) (tt, omega (arith, b.high, rate_le c.args.khz))
+    let b = in_range (goal.at.overflow_cast-lag c).After-lag_of-lag in
+    rw (kept w32 c.lag_of-lag.result c.lag_of-lag.type_inv, lag_is (goal.at.overflow_cast-lag c).After-lag_of-lag, b.is) (tt, omega (arith, b.high, rate_le c.args.khz))
 
 pub excite-seed-requires : goal.excite-seed-requires
 excite-seed-requires c =
-    let b = in_range c.before.before in
-    rw (kept w32 c.lag_of-lag.result c.lag_of-lag.type_inv, lag_is c.before.before, sub c) (search rules, omega (arith, b.low), omega (arith, b.high), search rules)
+    let b = in_range (goal.at.excite-seed-requires c).After-lag_of-lag in
+    rw (kept w32 c.lag_of-lag.result c.lag_of-lag.type_inv, lag_is (goal.at.excite-seed-requires c).After-lag_of-lag, sub (goal.at.excite-seed-requires c).After-subfr_length) (search rules, omega (arith, b.low), omega (arith, b.high), search rules)
 
 pub returns : goal.returns
 unfolding faded_voice
@@ -55,13 +55,13 @@ returns c =
     let exc = a.exc.now in
     let w = excited_times exc a.from lag (5 * r) v in
     let u = kept w32 c.lag_of-lag.result c.lag_of-lag.type_inv in
-    let e1 = rw (u, lag_is c.before.before.before.before.before.before.before.before.before.before, sub c.before.before.before.before.before.before.before.before) at c.excite-seed.ensures.1 in
-    let e2 : c.faded_taps-taps.result ≡ map (faded a.«harm-gain-q15») w.taps =
-    c.faded_taps-taps.ensures ∙ rw (to_z-of_z c.ranges.«harm-gain-q15», times_taps exc a.from lag (5 * r) v) in
-    let e3 : to_z w16 (of_z w16 c.faded.result) ≡ faded a.«rand-gain-q15» w.scale =
-    got w16 c.faded.type_inv c.faded.ensures ∙ rw (to_z-of_z c.ranges.«rand-gain-q15», kept w16 k.scale_q14 c.struct_told-2-1.given.1.0.1, times_scale exc a.from lag (5 * r) v) in
+    let e1 = rw (u, lag_is (goal.at.returns c).After-lag_of-lag, sub (goal.at.returns c).After-subfr_length) at c.excite-seed.ensures.1 in
+    let e2 : c.faded_taps-taps.result ≡ map (faded a.harm_gain_q15) w.taps =
+    c.faded_taps-taps.ensures ∙ rw (to_z-of_z c.ranges.harm_gain_q15, times_taps exc a.from lag (5 * r) v) in
+    let e3 : to_z w16 (of_z w16 c.faded.result) ≡ faded a.rand_gain_q15 w.scale =
+    got w16 c.faded.type_inv c.faded.ensures ∙ rw (to_z-of_z c.ranges.rand_gain_q15, kept w16 k.scale_q14 c.struct_told-2-1.given.1.0.1, times_scale exc a.from lag (5 * r) v) in
     let e4 : to_z w32 (of_z w32 c.drifted.result) ≡ min_ℤ (smlawb w.pitch w.pitch (pos 655)) (pos (4608 * r)) =
     got w32 c.drifted.type_inv c.drifted.ensures ∙ rw (kept w32 k.pitch_q8 c.struct_told-1.given.1.1.0.1, times_pitch exc a.from lag (5 * r) v, got w32 c.pitch_max_q8.type_inv c.pitch_max_q8.ensures, to_z-of_z c.ranges.khz) in
     let e5 : to_z w32 (of_z w32 c.excite-seed.result) ≡ w.seed =
-    got w32 c.excite-seed.type_inv c.excite-seed.ensures.0 ∙ rw (u, lag_is c.before.before.before.before.before.before.before.before.before.before, sub c.before.before.before.before.before.before.before.before) in
+    got w32 c.excite-seed.type_inv c.excite-seed.ensures.0 ∙ rw (u, lag_is (goal.at.returns c).After-lag_of-lag, sub (goal.at.returns c).After-subfr_length) in
     λ i. record { past = e1 i; taps = e2 i; scale = e3 i; pitch = e4 i; seed = e5 i }

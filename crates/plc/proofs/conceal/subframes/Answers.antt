@@ -33,10 +33,10 @@ loop-j-init c =
     (search rules, refl, rw e)
 
 pub overflow_mul-at : goal.overflow_mul-at
-overflow_mul-at c = omega (arith, fit c)
+overflow_mul-at c = omega (arith, fit (goal.at.overflow_mul-at c).In-loop-j)
 
 pub overflow_add-at : goal.overflow_add-at
-overflow_add-at c = omega (arith, fit c)
+overflow_add-at c = omega (arith, fit (goal.at.overflow_add-at c).In-loop-j)
 
 pub subframe-k-requires : goal.subframe-k-requires
 subframe-k-requires c =
@@ -45,7 +45,7 @@ subframe-k-requires c =
     let g = to_z-of_z c.ranges.khz in
     let h : Pitched (rate_of z) a.k0.pitch_q8 = rw g (between _ _ a.k0.pitch_q8 c.requires.4) in
     let v = voices_pitch (record { rate = rate_of z; subframes = a.n }) a.exc.now a.from _ _ c.loop-j.j (voice_of (take c.ltp_mem_length-mem.result a.buf.now) a.k0) (rate_le z) h in
-    (search rules, rw g c.requires.1, omega (arith, c.ltp_mem_length-mem.ensures), omega (arith, c.ltp_mem_length-mem.ensures, c.subfr_length-l.ensures, fit c.before), between-back _ (rw (ap (λ (w : Voice). w.pitch) c.loop-j.invariant.2) v))
+    (search rules, rw g c.requires.1, omega (arith, c.ltp_mem_length-mem.ensures), omega (arith, c.ltp_mem_length-mem.ensures, c.subfr_length-l.ensures, fit (goal.at.subframe-k-requires c).In-loop-j), between-back _ (rw (ap (λ (w : Voice). w.pitch) c.loop-j.invariant.2) v))
 
 pub loop-j-preserved : goal.loop-j-preserved
 unfolding voices
@@ -55,7 +55,7 @@ loop-j-preserved c =
     let e : c.ltp_mem_length-mem.result + c.subfr_length-l.result * (c.loop-j.j + 1) ≡ c.ltp_mem_length-mem.result + c.subfr_length-l.result * c.loop-j.j + 5 * r = omega (arith, c.subfr_length-l.ensures) in (
       search rules,
       search rules,
-      rw (e, add-one) (c.subframe-k.ensures ∙ ap (λ (w : Voice). faded_voice r (to_z w32 (of_z w32 a.«harm-gain-q15»)) (to_z w32 (of_z w32 a.«rand-gain-q15»)) (excited_times a.exc.now a.from (nat_abs (lag_of w.pitch)) (5 * r) w)) c.loop-j.invariant.2),
+      rw (e, add-one) (c.subframe-k.ensures ∙ ap (λ (w : Voice). faded_voice r (to_z w32 (of_z w32 a.harm_gain_q15)) (to_z w32 (of_z w32 a.rand_gain_q15)) (excited_times a.exc.now a.from (nat_abs (lag_of w.pitch)) (5 * r) w)) c.loop-j.invariant.2),
     )
 
 pub returns : goal.returns
@@ -65,6 +65,6 @@ returns c =
       c.ltp_mem_length-mem.ensures,
       c.subfr_length-l.ensures,
       to_z-of_z c.ranges.khz,
-      to_z-of_z c.ranges.«harm-gain-q15»,
-      to_z-of_z c.ranges.«rand-gain-q15»,
+      to_z-of_z c.ranges.harm_gain_q15,
+      to_z-of_z c.ranges.rand_gain_q15,
     ) at c.loop-j.invariant.2

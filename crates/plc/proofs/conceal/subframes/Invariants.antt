@@ -20,7 +20,7 @@ use Rattle.plc.proofs.conceal.subframes.Given as goal
 abbrev pub invariant-loop-j : goal.invariant-loop-j
 invariant-loop-j l =
     (l.j ≤ l.n) × (length l.buf ≡ length l.initial.buf)
-    × (◌≡◌ {A = Voice} (voice_of (take (l.mem + l.l * l.j) l.buf) l.k) (voices (record { rate = rate_of (to_z w32 l.khz); subframes = l.n }) l.exc l.from (to_z w32 l.harm_gain_q15) (to_z w32 l.rand_gain_q15) l.j (voice_of (take l.mem l.initial.buf) l.initial.k)))
+    × (◌≡◌ {A = Voice} (voice_of (take (l.mem + l.l * l.j) l.buf) l.k) (voices (record { rate = rate_of l.khz; subframes = l.n }) l.exc l.from l.harm_gain_q15 l.rand_gain_q15 l.j (voice_of (take l.mem l.initial.buf) l.initial.k)))
 
 abbrev pub decreases-loop-j : goal.decreases-loop-j
 decreases-loop-j l = l.n - l.j

@@ -25,8 +25,8 @@ returns c =
       got w32 c.harm_gain-harm.type_inv c.harm_gain-harm.ensures,
       c.starting-k.ensures,
       rw z at c.rewhitened.ensures,
-      to_z-of_z c.ranges.«loss-cnt»,
-      to_z-of_z c.ranges.«prev-signal-type»,
+      to_z-of_z c.ranges.loss_cnt,
+      to_z-of_z c.ranges.prev_signal_type,
       to_z-of_z c.ranges.edition,
       c.requires.2,
     )

@@ -23,5 +23,5 @@ returns c =
       k,
       u.ensures.0,
       got w32 c.wide16.type_inv c.wide16.ensures,
-      to_z-of_z c.ranges.«ltp-scale-q14»,
+      to_z-of_z c.ranges.ltp_scale_q14,
     )

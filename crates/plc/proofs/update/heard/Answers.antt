@@ -41,7 +41,7 @@ returns c =
       c.loop-i.invariant.3,
       le_antisymm c.loop-i.invariant.0 c.loop-i-test.false,
       g,
-      to_z-of_z c.ranges.«gain-q16»,
-      filled (tabulate (length exc) (λ (k : ℕ). by (floor_div c.args.«gain-q16» (2 ^ 6)) (get_or exc k (pos 0)))) c.args.part.now (length exc) (omega arith),
+      to_z-of_z c.ranges.gain_q16,
+      filled (tabulate (length exc) (λ (k : ℕ). by (floor_div c.args.gain_q16 (2 ^ 6)) (get_or exc k (pos 0)))) c.args.part.now (length exc) (omega arith),
     )
-    (map-table (by (floor_div c.args.«gain-q16» (2 ^ 6))) exc)
+    (map-table (by (floor_div c.args.gain_q16 (2 ^ 6))) exc)

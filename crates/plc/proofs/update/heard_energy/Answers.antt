@@ -22,35 +22,35 @@ sub c =
     let a = c.args in
     rw (add-sub_cancel_left a.at a.l) (length-take-le a.l (drop a.at a.exc.now) (simp length-drop (omega arith)))
 
-made : (c : After-heard) → length c.heard.new.0 ≡ c.args.l
+made : (c : After-heard) → length c.heard.new.part ≡ c.args.l
 made c = ap length c.heard.ensures ∙ length-heard_by _ _ ∙ sub c.before
 
 -- the part that was written
 written : (c : After-part-3-1) → let a = c.args in
-    take a.l (c.heard.new.0 ++ drop a.l c.zeros80-part.result) ≡ heard_by a.«gain-q16» (take a.l (drop a.at a.exc.now))
+    take a.l (c.heard.new.part ++ drop a.l c.zeros80-part.result) ≡ heard_by a.gain_q16 (take a.l (drop a.at a.exc.now))
 written c =
-    take_at c.heard.new.0 _ c.args.l (made c.before.before)
+    take_at c.heard.new.part _ c.args.l (made c.before.before)
     ∙ c.heard.ensures
-    ∙ rw (to_z-of_z c.ranges.«gain-q16», add-sub_cancel_left c.args.at c.args.l)
+    ∙ rw (to_z-of_z c.ranges.gain_q16, add-sub_cancel_left c.args.at c.args.l)
 
 long : (c : After-part-3-1) → let a = c.args in
-    length (take a.l (c.heard.new.0 ++ drop a.l c.zeros80-part.result)) ≡ a.l
+    length (take a.l (c.heard.new.part ++ drop a.l c.zeros80-part.result)) ≡ a.l
 long c = length-take-le _ _ (simp length-append (omega (arith, made c.before.before)))
 
 pub slice_bounds-heard-end : goal.slice_bounds-heard-end
-slice_bounds-heard-end c = sym (room c)
+slice_bounds-heard-end c = sym (room (goal.at.slice_bounds-heard-end c).After-part-1)
 
 pub heard-requires : goal.heard-requires
-heard-requires c = room c.before ∙ sym (sub c)
+heard-requires c = room (goal.at.heard-requires c).After-part-1 ∙ sym (sub (goal.at.heard-requires c).After-heard-arg-1)
 
 pub slice_bounds-part-end-2 : goal.slice_bounds-part-end-2
-slice_bounds-part-end-2 c = simp length-append (omega (arith, made c.before))
+slice_bounds-part-end-2 c = simp length-append (omega (arith, made (goal.at.slice_bounds-part-end-2 c).After-heard))
 
 pub slice_bounds-silk_sum_sqr_shift-end : goal.slice_bounds-silk_sum_sqr_shift-end
-slice_bounds-silk_sum_sqr_shift-end c = sym (long c)
+slice_bounds-silk_sum_sqr_shift-end c = sym (long (goal.at.slice_bounds-silk_sum_sqr_shift-end c).After-part-3-1)
 
 pub silk_sum_sqr_shift-requires : goal.silk_sum_sqr_shift-requires
-silk_sum_sqr_shift-requires c = omega (arith, long c)
+silk_sum_sqr_shift-requires c = omega (arith, long (goal.at.silk_sum_sqr_shift-requires c).After-part-3-1)
 
 pub returns : goal.returns
-returns c = c.silk_sum_sqr_shift.ensures ∙ ap sum_sqr_shift (written c.before)
+returns c = c.silk_sum_sqr_shift.ensures ∙ ap sum_sqr_shift (written (goal.at.returns c).After-part-3-1)

@@ -7,7 +7,7 @@ pub returns : goal.returns
 returns c =
     cc (
       to_z-of_z c.ranges.e,
-      to_z-of_z c.ranges.«gain-q10»,
+      to_z-of_z c.ranges.gain_q10,
       kept w32 c.silk_smulww.result c.silk_smulww.type_inv,
       kept w32 c.shr32.result c.shr32.type_inv,
       kept w16 c.sat16.result c.sat16.type_inv,

@@ -17,7 +17,7 @@ use Rattle.plc.proofs.update.noise_place.Goals as goal
 
 abbrev part : Start → ℕ → List ℤ
 part a k =
-    heard_by (get_or a.args.t2 k (pos 0)) (take a.args.l (drop ((k + a.args.n - 2) * a.args.l) a.args.exc.now))
+    heard_by (get_or a.args.gains k (pos 0)) (take a.args.l (drop ((k + a.args.n - 2) * a.args.l) a.args.exc.now))
 
 -- subframe k of the last two ends within the excitation
 ends : (a : Start) (k : ℕ) → k ≤ 1 → (k + a.args.n - 2) * a.args.l + a.args.l ≤ 320
@@ -44,30 +44,30 @@ long a k h =
 older : (c : After-older_smaller) → c.older_smaller.result ≡ older_smaller (part c.before.before.before.before.before 0) (part c.before.before.before.before.before 1)
 older c =
     let o : c.heard_energy-old.result ≡ sum_sqr_shift (part c.before.before.before.before.before 0) =
-    c.heard_energy-old.ensures ∙ rw (kept w32 (get_or c.args.t2 0 (pos 0)) c.heard_energy-arg-1.given, first c.args.n) in
+    c.heard_energy-old.ensures ∙ rw (kept w32 (get_or c.args.gains 0 (pos 0)) c.heard_energy-arg-1.given, first c.args.n) in
     let n : c.heard_energy-new.result ≡ sum_sqr_shift (part c.before.before.before.before.before 1) =
-    c.heard_energy-new.ensures ∙ rw (kept w32 (get_or c.args.t2 1 (pos 0)) c.heard_energy-arg-2-1.given, second c.args.n) in
+    c.heard_energy-new.ensures ∙ rw (kept w32 (get_or c.args.gains 1 (pos 0)) c.heard_energy-arg-2-1.given, second c.args.n) in
     let lo = long c.before.before.before.before.before 0 (omega arith) in
     let ln = long c.before.before.before.before.before 1 (omega arith) in
     rw (c.older_smaller.ensures, o, n)
     (older-is (part c.before.before.before.before.before 0) (part c.before.before.before.before.before 1) (heard_by_bounded _ _) (heard_by_bounded _ _) (omega arith) (omega arith) (omega arith) (omega arith))
 
 pub overflow_mul-n : goal.overflow_mul-n
-overflow_mul-n c = record { fits = omega (arith, early c) }
+overflow_mul-n c = record { fits = omega (arith, early (goal.at.overflow_mul-n c).Start) }
 
 pub heard_energy-old-requires : goal.heard_energy-old-requires
-heard_energy-old-requires c = omega (arith, early c.before)
+heard_energy-old-requires c = omega (arith, early (goal.at.heard_energy-old-requires c).Start)
 
 pub overflow_mul-n-2 : goal.overflow_mul-n-2
-overflow_mul-n-2 c = record { fits = omega (arith, late c.before.before) }
+overflow_mul-n-2 c = record { fits = omega (arith, late (goal.at.overflow_mul-n-2 c).Start) }
 
 pub heard_energy-new-requires : goal.heard_energy-new-requires
-heard_energy-new-requires c = omega (arith, late c.before.before.before)
+heard_energy-new-requires c = omega (arith, late (goal.at.heard_energy-new-requires c).Start)
 
 pub returns-then-older_smaller : goal.returns-then-older_smaller
 unfolding place_from
-returns-then-older_smaller c = rw (c.before_end.ensures, ← older c.before.before, c.if-older_smaller.true)
+returns-then-older_smaller c = rw (c.before_end.ensures, ← older (goal.at.returns-then-older_smaller c).After-older_smaller, c.if-older_smaller.true)
 
 pub returns-else-older_smaller : goal.returns-else-older_smaller
 unfolding place_from
-returns-else-older_smaller c = rw (c.before_end-else-older_smaller.ensures, ← older c.before.before, c.if-older_smaller.false)
+returns-else-older_smaller c = rw (c.before_end-else-older_smaller.ensures, ← older (goal.at.returns-else-older_smaller c).After-older_smaller, c.if-older_smaller.false)

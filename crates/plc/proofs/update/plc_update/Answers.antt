@@ -1,7 +1,7 @@
 use mathlib.Core.Path.{◌≡◌}
 use mir.Syntax.{w32}
 use mir.Val.{to_z, of_z}
-use Rattle.word.proofs.Words.{kept}
+use Rattle.word.proofs.Words.{kept, got}
 use Rattle.decoder.specs.With.{with_type, with_plc}
 use Rattle.decoder.specs.State.{shape_of}
 use Rattle.plc.specs.Update.{updated_by, plc_update}
@@ -13,7 +13,7 @@ nb : (c : After-struct_told-2-1) → let s = c.args.s in to_z w32 (of_z w32 s.nb
 nb c = kept w32 _ c.struct_told-2-1.given.1.1.1.1.1.1.0.1
 
 pub received-p-requires : goal.received-p-requires
-received-p-requires c = rw (nb c) c.requires
+received-p-requires c = rw (nb (goal.at.received-p-requires c).After-struct_told-2-1) c.requires
 
 pub returns : goal.returns
 unfolding plc_update
@@ -21,6 +21,6 @@ returns c =
     let a = c.args in
     let s = a.s in
     let khz = kept w32 s.fs_khz c.struct_told-1.given.1.1.1.1.1.0.1 in
-    let type = c.type_number.ensures in
-    let plc : c.received-p.result ≡ updated_by (shape_of s) a.signal a.c a.rows s.s_plc = rw (c.received-p.ensures, khz, nb c.before.before) in
+    let type = got w32 c.type_number.type_inv c.type_number.ensures in
+    let plc : c.received-p.result ≡ updated_by (shape_of s) a.signal a.c a.rows s.s_plc = rw (c.received-p.ensures, khz, nb (goal.at.returns c).After-struct_told-2-1) in
     λ i. with_plc (with_type s (type i)) (plc i)

@@ -17,11 +17,11 @@ use Rattle.plc.specs.declared.update.Pulse.{Pulse}
 use Rattle.plc.proofs.update.plc_updated.Goals.{After-count_of-n, After-lpc_order, After-pulse_of-b, After-subfr_length}
 use Rattle.plc.proofs.update.plc_updated.Goals as goal
 
-count : (c : After-count_of-n) → c.count_of-n.result ≡ count_of c.args.«nb-subfr»
-count c = c.count_of-n.ensures ∙ rw (to_z-of_z c.ranges.«nb-subfr»)
+count : (c : After-count_of-n) → c.count_of-n.result ≡ count_of c.args.nb_subfr
+count c = c.count_of-n.ensures ∙ rw (to_z-of_z c.ranges.nb_subfr)
 
 few : (c : After-count_of-n) → c.count_of-n.result ≤ 4
-few c = rw (count c) (count_le c.args.«nb-subfr»)
+few c = rw (count c) (count_le c.args.nb_subfr)
 
 some : (c : After-count_of-n) → 2 ≤ c.count_of-n.result
 some c = rw (count c) c.requires
@@ -37,38 +37,38 @@ short : (c : After-subfr_length) → c.subfr_length.result ≤ 80
 short c = omega (arith, sub c, rate_le c.args.khz)
 
 -- the pulse
-found : (c : After-pulse_of-b) → let a = c.args in c.pulse_of-b.result ≡ pulse_of (shape a.khz a.«nb-subfr») a.voiced a.c a.h.pitch_l_q8
+found : (c : After-pulse_of-b) → let a = c.args in c.pulse_of-b.result ≡ pulse_of (shape a.khz a.nb_subfr) a.voiced a.c a.h.pitch_l_q8
 found c =
     let a = c.args in
-    c.pulse_of-b.ensures ∙ rw (to_z-of_z c.ranges.khz, count c.before.before, kept w32 a.h.pitch_l_q8 c.struct_told-1.given.0.1)
+    c.pulse_of-b.ensures ∙ rw (to_z-of_z c.ranges.khz, count c.before.before.before, kept w32 a.h.pitch_l_q8 c.struct_told-1.given.0.1)
 
 pub pulse_of-b-requires : goal.pulse_of-b-requires
-pulse_of-b-requires c = omega (arith, few c.before, some c.before)
+pulse_of-b-requires c = omega (arith, few (goal.at.pulse_of-b-requires c).After-count_of-n, some (goal.at.pulse_of-b-requires c).After-count_of-n)
 
 pub with_front-coefs-requires : goal.with_front-coefs-requires
-with_front-coefs-requires c = rw (order c) (order_le _)
+with_front-coefs-requires c = rw (order (goal.at.with_front-coefs-requires c).After-lpc_order) (order_le _)
 
 pub last_gains-last-requires : goal.last_gains-last-requires
-last_gains-last-requires c = (some c.before.before.before.before.before.before.before.before, few c.before.before.before.before.before.before.before.before)
+last_gains-last-requires c = (some (goal.at.last_gains-last-requires c).After-count_of-n, few (goal.at.last_gains-last-requires c).After-count_of-n)
 
 pub overflow_cast-t : goal.overflow_cast-t
-overflow_cast-t c = record { sfits = omega (arith, few c.before.before.before.before.before.before.before.before.before.before.before.before) }
+overflow_cast-t c = record { sfits = omega (arith, few (goal.at.overflow_cast-t c).After-count_of-n) }
 
 pub overflow_cast-t-2 : goal.overflow_cast-t-2
-overflow_cast-t-2 c = record { sfits = omega (arith, short c) }
+overflow_cast-t-2 c = record { sfits = omega (arith, short (goal.at.overflow_cast-t-2 c).After-subfr_length) }
 
 pub returns : goal.returns
 unfolding plc_updated
 returns c =
     let h = c.args.h in
     let b = c.pulse_of-b.result in
-    let f = found c.before.before.before.before.before.before.before.before.before.before.before in
+    let f = found (goal.at.returns c).After-pulse_of-b in
     let pitch = kept w32 b.pitch c.struct_told-3-1.given.1.0.1 ∙ ap (λ (x : Pulse). x.pitch) f in
     let tap = kept w16 b.tap c.struct_told-2-1.given.0.1 ∙ ap (λ (x : Pulse). x.tap) f in
     let taps = c.middle-taps.ensures ∙ ap middle tap in
-    let lpc = c.with_front-coefs.ensures ∙ ap (λ (d : ℕ). take d c.args.row ++ drop d h.prev_lpc_q12) (order c.before.before.before.before.before.before) in
-    let scale = c.low16.ensures ∙ ap wrap16 (kept w32 c.args.c.ltp_scale_q14 c.struct_told-4-1.given.1.1.1.0.1) in
-    let gains = c.last_gains-last.ensures ∙ ap (λ (n : ℕ). get_or c.args.c.gains_q16 (n - 2) (pos 0) ∷ get_or c.args.c.gains_q16 (n - 1) (pos 0) ∷ []) (count c.before.before.before.before.before.before.before.before.before.before.before.before.before) in
-    let n = to_z_pos w32 {n = c.count_of-n.result} (omega (arith, few c.before.before.before.before.before.before.before.before.before.before.before.before.before)) ∙ ap pos (count c.before.before.before.before.before.before.before.before.before.before.before.before.before) in
-    let len = to_z_pos w32 {n = c.subfr_length.result} (omega (arith, short c)) ∙ ap pos (sub c) in
+    let lpc = c.with_front-coefs.ensures ∙ ap (λ (d : ℕ). take d c.args.row ++ drop d h.prev_lpc_q12) (order (goal.at.returns c).After-lpc_order) in
+    let scale = got w16 c.low16.type_inv (c.low16.ensures ∙ ap wrap16 (kept w32 c.args.c.ltp_scale_q14 c.struct_told-4-1.given.1.1.1.0.1)) in
+    let gains = c.last_gains-last.ensures ∙ ap (λ (n : ℕ). get_or c.args.c.gains_q16 (n - 2) (pos 0) ∷ get_or c.args.c.gains_q16 (n - 1) (pos 0) ∷ []) (count (goal.at.returns c).After-count_of-n) in
+    let n = to_z_pos w32 {n = c.count_of-n.result} (omega (arith, few (goal.at.returns c).After-count_of-n)) ∙ ap pos (count (goal.at.returns c).After-count_of-n) in
+    let len = to_z_pos w32 {n = c.subfr_length.result} (omega (arith, short (goal.at.returns c).After-subfr_length)) ∙ ap pos (sub (goal.at.returns c).After-subfr_length) in
     λ i. hold h (pitch i) (taps i) (lpc i) h.rand_seed h.rand_scale_q14 (scale i) (gains i) h.fs_khz (n i) (len i)

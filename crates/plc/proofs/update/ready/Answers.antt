@@ -27,23 +27,23 @@ frame c =
     rw (sub c) (frame_most (rate_of c.args.khz) c.args.subframes (rate_le c.args.khz) c.requires)
 
 pub overflow_cast-rate : goal.overflow_cast-rate
-overflow_cast-rate c = let l = slow c in search rules
+overflow_cast-rate c = let l = slow (goal.at.overflow_cast-rate c).After-rate_of-rate in search rules
 
 pub returns-then-rate-h : goal.returns-then-rate-h
 unfolding plc_ready
 returns-then-rate-h c =
     let fs = c.args.h.fs_khz in
     let f : SFits w32 fs = record { sfits = c.struct_told-1.given.1.1.1.1.1.1.1.1.1.1.0.1 } in
-    rw (same_number (rate_of c.args.khz) fs (omega (arith, rate_le c.args.khz)) f (sym (rate c.before.before.before) ∙ c.if-rate-h.true))
+    rw (same_number (rate_of c.args.khz) fs (omega (arith, rate_le c.args.khz)) f (sym (rate (goal.at.returns-then-rate-h c).After-rate_of-rate) ∙ c.if-rate-h.true))
 
 pub overflow_mul-t : goal.overflow_mul-t
-overflow_mul-t c = let l = frame c in search rules
+overflow_mul-t c = let l = frame (goal.at.overflow_mul-t c).After-subfr_length in search rules
 
 pub overflow_mul-t-2 : goal.overflow_mul-t-2
-overflow_mul-t-2 c = let l = frame c in search rules
+overflow_mul-t-2 c = let l = frame (goal.at.overflow_mul-t-2 c).After-subfr_length in search rules
 
 pub overflow_cast-t : goal.overflow_cast-t
-overflow_cast-t c = let l = frame c in search rules
+overflow_cast-t c = let l = frame (goal.at.overflow_cast-t c).After-subfr_length in search rules
 
 pub returns : goal.returns
 unfolding plc_ready plc_reset
@@ -52,9 +52,9 @@ returns c =
     let n = c.args.subframes in
     let f : SFits w32 fs = record { sfits = c.struct_told-1.given.1.1.1.1.1.1.1.1.1.1.0.1 } in
     rw (
-      other-number (rate_of c.args.khz) fs (omega (arith, rate_le c.args.khz)) f (λ e. c.if-rate-h.false (rate c.before.before.before.before.before ∙ e)),
-      to_z_pos w32 {n = c.subfr_length.result * n * 128} (omega (arith, frame c.before)),
-      to_z_pos w32 {n = c.rate_of-rate.result} (omega (arith, slow c.before.before.before.before.before)),
-      rate c.before.before.before.before.before,
-      sub c.before,
+      other-number (rate_of c.args.khz) fs (omega (arith, rate_le c.args.khz)) f (λ e. c.if-rate-h.false (rate (goal.at.returns c).After-rate_of-rate ∙ e)),
+      to_z_pos w32 {n = c.subfr_length.result * n * 128} (omega (arith, frame (goal.at.returns c).After-subfr_length)),
+      to_z_pos w32 {n = c.rate_of-rate.result} (omega (arith, slow (goal.at.returns c).After-rate_of-rate)),
+      rate (goal.at.returns c).After-rate_of-rate,
+      sub (goal.at.returns c).After-subfr_length,
     )

@@ -16,7 +16,7 @@ divisor c = got w32 c.silk_max_32.type_inv c.silk_max_32.ensures ∙ rw (to_z-of
 
 pub silk_div32-requires : goal.silk_div32-requires
 silk_div32-requires c =
-    rw (divisor c, to_z-of_z c.ranges.whole)
+    rw (divisor (goal.at.silk_div32-requires c).After-silk_max_32, to_z-of_z c.ranges.whole)
     (max_one c.args.sum, quot_fits c.args.whole (max_ℤ c.args.sum (pos 1)) c.requires)
 
 pub returns : goal.returns
@@ -26,7 +26,7 @@ returns c =
       got w32 c.shr32.type_inv c.shr32.ensures,
       got w32 c.silk_smulbb.type_inv c.silk_smulbb.ensures,
       got w32 c.silk_div32.type_inv c.silk_div32.ensures,
-      divisor c.before.before.before.before,
+      divisor (goal.at.returns c).After-silk_max_32,
       to_z-of_z c.ranges.whole,
       to_z-of_z c.ranges.sum,
       to_z-of_z c.ranges.q,

@@ -16,15 +16,15 @@ refused c = c.number.ensures ∙ ap refusal_number c.plc_received-refusal.ensure
 pub returns-then-number-ne0 : goal.returns-then-number-ne0
 unfolding plc_received
 returns-then-number-ne0 c =
-    rw (c.plc_received-refusal.ensures, ne_eqb _ 0 (λ e. c.if-number-ne0.true (refused c.before ∙ e)))
+    rw (c.plc_received-refusal.ensures, ne_eqb _ 0 (λ e. c.if-number-ne0.true (refused (goal.at.returns-then-number-ne0 c).After-number ∙ e)))
 
 pub plc_update-state-requires : goal.plc_update-state-requires
 plc_update-state-requires c =
     let a = c.args in
-    let f = (plc_received-fits a.s a.q a.c (sym (refused c.before) ∙ c.if-number-ne0.false)).accepted in
+    let f = (plc_received-fits a.s a.q a.c (sym (refused (goal.at.plc_update-state-requires c).After-number) ∙ c.if-number-ne0.false)).accepted in
     (size-bounds a.s f.rate f.size).bounds.count_low
 
 pub returns : goal.returns
 unfolding plc_received
 returns c =
-    rw (c.plc_received-refusal.ensures, eq-eqb _ 0 (sym (refused c.before.before) ∙ c.if-number-ne0.false), c.plc_update-state.ensures)
+    rw (c.plc_received-refusal.ensures, eq-eqb _ 0 (sym (refused (goal.at.returns c).After-number) ∙ c.if-number-ne0.false), c.plc_update-state.ensures)

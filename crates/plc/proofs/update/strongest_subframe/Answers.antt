@@ -28,21 +28,21 @@ unfolding strongest
 loop-j-init c = (search rules, refl)
 
 pub overflow_mul-start : goal.overflow_mul-start
-overflow_mul-start c = record { fits = omega (arith, start c) }
+overflow_mul-start c = record { fits = omega (arith, start (goal.at.overflow_mul-start c).In-loop-j) }
 
 pub overflow_cast-start : goal.overflow_cast-start
-overflow_cast-start c = record { sfits = omega (arith, start c) }
+overflow_cast-start c = record { sfits = omega (arith, start (goal.at.overflow_cast-start c).In-loop-j) }
 
 pub loop-j-preserved : goal.loop-j-preserved
 unfolding strongest
 loop-j-preserved c =
     let a = c.args in
-    let s = start c.before.before.before in (
+    let s = start (goal.at.loop-j-preserved c).In-loop-j in (
       search rules,
       rw (
         add-one,
         c.stronger-b.ensures,
-        to_z_pos w32 {c.before.before.before.before.before.before = c.loop-j.j * c.subfr_length-l.result} (omega arith),
+        to_z_pos w32 {n = c.loop-j.j * c.subfr_length-l.result} (omega arith),
         c.subfr_length-l.ensures,
         kept w32 (get_or a.lags.now (a.subframes - 1) (pos 0)) c.last-1.given,
         got w32 c.tap_sum.type_inv c.tap_sum.ensures,

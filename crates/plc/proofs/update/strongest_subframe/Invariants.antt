@@ -17,7 +17,7 @@ use Rattle.plc.proofs.update.strongest_subframe.Given as goal
 
 abbrev pub invariant-loop-j : goal.invariant-loop-j
 invariant-loop-j l =
-    (l.j ≤ l.subframes) × (l.b ≡ strongest (record { rate = rate_of (to_z w32 l.khz); l.subframes = l.subframes }) l.lags l.taps (to_z w32 l.pitch) l.j)
+    (l.j ≤ l.subframes) × (l.b ≡ strongest (record { rate = rate_of l.khz; subframes = l.subframes }) l.lags l.taps l.pitch l.j)
 
 abbrev pub decreases-loop-j : goal.decreases-loop-j
 decreases-loop-j l = l.subframes - l.j
