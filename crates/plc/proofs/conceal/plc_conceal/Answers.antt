@@ -25,10 +25,10 @@ count : (c : After-count_of-n) → c.count_of-n.result ≡ count_of c.args.s.nb_
 count c = c.count_of-n.ensures ∙ ap count_of (kept w32 _ c.struct_told-2-1.given.1.1.1.1.1.1.0.1)
 
 readied : (c : After-ready-h) → let s = c.args.s in c.ready-h.result ≡ plc_ready (shape_of s) s.s_plc
-readied c = c.ready-h.ensures ∙ rw (khz c.before.before.before.before.before.before, count c.before.before)
+readied c = c.ready-h.ensures ∙ rw (kept w32 _ c.struct_told-1.given.1.1.1.1.1.0.1, c.count_of-n.ensures, kept w32 _ c.struct_told-2-1.given.1.1.1.1.1.1.0.1)
 
 order : (c : After-lpc_order) → c.lpc_order.result ≡ order_of (rate_of c.args.s.fs_khz)
-order c = c.lpc_order.ensures ∙ rw (khz c.before.before.before.before.before.before.before)
+order c = c.lpc_order.ensures ∙ rw (kept w32 _ c.struct_told-1.given.1.1.1.1.1.0.1)
 
 pub ready-h-requires : goal.ready-h-requires
 ready-h-requires c =
