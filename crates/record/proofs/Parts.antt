@@ -1,15 +1,14 @@
 -- The parts of a received frame's bytes: their lengths, and how they are stored.
 use Prim.Native.Nat.{ℕ, ◌+◌, ◌≤◌}
-use mathlib.Core.Path.{◌≡◌, refl, sym, ap, ◌∙◌}
+use mathlib.Core.Path.{◌≡◌, refl, ap, ◌∙◌}
 use mathlib.Core.List.{List, [], ◌∷◌, ◌++◌, append_assoc, append-nil}
-use native.Mathlib.Omega.{arith}
-use lib.IntN.{ℤ, pos}
+use lib.IntN.{ℤ}
 use lib.ListN.{length, get_or, length-append, length-replicate}
 use mir.Syntax.{w16, w32}
 use Rattle.le.specs.Bytes.{bytes_of, packed, joined, with_bytes}
 use Rattle.le.proofs.Places.{with-more}
 use Rattle.le.proofs.Packing.{length-packed}
-use Rattle.le.proofs.Joining.{Sized, total, length-joined}
+use Rattle.le.proofs.Joining.{Sized, length-joined}
 use Rattle.decoder.specs.declared.Params.{Params}
 use Rattle.decoder.specs.declared.SilkDecoderControl.{SilkDecoderControl}
 use Rattle.record.specs.Recorded.{Recorded, lost, received, small_bytes, parts, record_bytes}

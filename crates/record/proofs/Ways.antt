@@ -1,29 +1,27 @@
 -- A frame's bytes and the frame that they hold: each way back.
-use Prim.Native.Nat.{ℕ, zero, suc, ◌+◌, ◌≤◌, ◌<◌}
+use Prim.Native.Nat.{ℕ, suc, ◌≤◌, ◌<◌}
 use mathlib.Core.Path.{◌≡◌, refl, sym, ap, ◌∙◌}
 use mathlib.Core.Bool.{Bool, true, false, cond}
 use mathlib.Core.List.{List, [], ◌∷◌, ◌++◌}
 use native.Mathlib.Omega.{arith}
 use borrow.Author.Tests.{eq-eqb, ne_eqb}
-use lib.Dec.{eqb, lit<}
+use lib.Dec.{lit<}
 use lib.IntN.{ℤ, pos}
 use lib.ListN.{length, get_or, take, drop, replicate}
 use lib.Seq.{get_or-take}
 use mir.Syntax.{w8, w16, w32}
-use mir.Val.{SFits}
-use Rattle.le.specs.Bytes.{Bytes, bytes_of, packed, joined, signed_at, words_at}
+use Rattle.le.specs.Bytes.{Bytes, bytes_of, joined, signed_at}
 use Rattle.le.proofs.Packing.{signed_back, signed-again, words_back, words-again}
-use Rattle.le.proofs.Joining.{Sized, total, joined_at, cut, joined-cut}
+use Rattle.le.proofs.Joining.{total, joined_at, cut, joined-cut}
 use Rattle.word.specs.Int.{eq_ℤ}
 use Rattle.word.proofs.Order.{eq_ℤ_true}
 use Rattle.decoder.specs.Signals.{signal_number, signal_of}
 use Rattle.decoder.specs.declared.Signal.TheVariants.{NoVoiceActivity, Unvoiced, Voiced, Other}
-use Rattle.decoder.specs.Typed.{Words}
 use Rattle.decoder.specs.declared.Params.{Params}
 use Rattle.decoder.specs.declared.SilkDecoderControl.{SilkDecoderControl}
 use Rattle.record.specs.Record.{params_in, control_in, rows_in, lines_in, pulses_in}
-use Rattle.record.specs.Recorded.{Recorded, lost, received, small_bytes, parts, recorded_in, record_bytes}
-use Rattle.record.specs.Claims.{TypedReceived, TypedRecorded, by_number, WrittenIsRead, ReadIsWritten}
+use Rattle.record.specs.Recorded.{lost, received, small_bytes, parts, recorded_in, record_bytes}
+use Rattle.record.specs.Claims.{TypedReceived, by_number, WrittenIsRead, ReadIsWritten}
 use Rattle.record.proofs.Parts.{sizes, parts-sized}
 
 two-rows : (rows : List (List ℤ)) → length rows ≡ 2 → get_or rows 0 [] ∷ get_or rows 1 [] ∷ [] ≡ rows

@@ -1,5 +1,5 @@
 -- What is written is what is read, and what is read is what is written.
-use Rattle.std.specs.Prelude.{ℕ, ◌≤◌, ◌<◌, ◌≡◌, List, ◌++◌, ℤ, get_or, length, take, drop, replicate}
+use Rattle.std.specs.Prelude.{ℕ, ◌≤◌, ◌≡◌, List, ◌++◌, ℤ, get_or, length, take, replicate}
 use Rattle.std.specs.Int.{w8, w16}
 use Rattle.std.proofs.Common.{SFits}
 use Rattle.le.specs.Bytes.{Bytes}

@@ -2,7 +2,6 @@ use mir.Syntax.{w32}
 use mathlib.Core.Path.{◌∙◌}
 use Rattle.word.proofs.Words.{kept}
 use Rattle.record.specs.Record.{control_in}
-use borrow.Author.Rules.{rules}
 use Rattle.record.proofs.control_in.Goals as goal
 
 pub returns : goal.returns

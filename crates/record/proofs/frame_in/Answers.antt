@@ -1,6 +1,5 @@
 use borrow.Author.Tests.{eq-eqb, ne_eqb}
 use Rattle.record.specs.Record.{frame_in}
-use borrow.Author.Rules.{rules}
 use Rattle.record.proofs.frame_in.Goals as goal
 
 pub returns-then-b-eq1 : goal.returns-then-b-eq1

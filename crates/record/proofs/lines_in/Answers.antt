@@ -1,5 +1,4 @@
 use Rattle.record.specs.Record.{lines_in}
-use borrow.Author.Rules.{rules}
 use Rattle.record.proofs.lines_in.Goals as goal
 
 pub returns : goal.returns

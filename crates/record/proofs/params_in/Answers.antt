@@ -3,7 +3,6 @@ use mir.Syntax.{w8}
 use Rattle.decoder.specs.Signals.{signal_of}
 use Rattle.word.proofs.Words.{kept}
 use Rattle.record.specs.Record.{params_in}
-use borrow.Author.Rules.{rules}
 use Rattle.record.proofs.params_in.Goals as goal
 
 pub returns : goal.returns

@@ -1,6 +1,5 @@
 use mathlib.Core.Path.{◌∙◌}
 use Rattle.record.specs.Record.{pulses_in}
-use borrow.Author.Rules.{rules}
 use Rattle.record.proofs.pulses_in.Goals as goal
 
 pub returns : goal.returns

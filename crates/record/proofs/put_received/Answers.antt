@@ -2,7 +2,6 @@ use native.Mathlib.Omega.{arith}
 use mir.Syntax.{w32}
 use Rattle.word.proofs.Words.{kept}
 use Rattle.record.proofs.Parts.{put_whole}
-use borrow.Author.Rules.{rules}
 use Rattle.record.proofs.put_received.Goals as goal
 
 pub returns : goal.returns

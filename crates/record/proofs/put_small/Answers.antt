@@ -4,7 +4,6 @@ use mir.Syntax.{w8, w32}
 use Rattle.word.specs.Int.{mod_ℤ}
 use Rattle.word.proofs.Words.{kept, got}
 use Rattle.le.specs.Bytes.{with_bytes}
-use borrow.Author.Rules.{rules}
 use Rattle.record.proofs.put_small.Goals as goal
 
 pub returns : goal.returns

@@ -1,6 +1,5 @@
 use mathlib.Core.List.{[], ◌∷◌}
 use Rattle.record.specs.Record.{rows_in}
-use borrow.Author.Rules.{rules}
 use Rattle.record.proofs.rows_in.Goals as goal
 
 pub returns : goal.returns
