@@ -15,7 +15,7 @@ use Rattle.recording.proofs.described_all.Given as goal
 
 abbrev pub invariant-loop-k : goal.invariant-loop-k
 invariant-loop-k l =
-    (l.k ≤ l.n) × (l.worst ≡ described_all (shape (to_z w32 l.khz) (to_z w32 l.nb_subfr)) (map (recorded_at l.bytes) (last l.records l.n l.k)))
+    (l.k ≤ l.n) × (l.worst ≡ described_all (shape l.khz l.nb_subfr) (map (recorded_at l.bytes) (last l.records l.n l.k)))
 
 abbrev pub decreases-loop-k : goal.decreases-loop-k
 decreases-loop-k l = l.n - l.k

@@ -2,7 +2,7 @@ use Prim.Native.Nat.{◌+◌, ◌*◌, ◌^◌, ◌<◌}
 use mathlib.Core.Path.{◌≡◌, sym, ap, ◌∙◌}
 use mathlib.Core.Bool.{Bool, true, false}
 use native.Mathlib.Omega.{arith}
-use borrow.Author.Tests.{lt-ltb, le-ltb, not-true, not-false}
+use borrow.Author.Tests.{lt-ltb, le-ltb}
 use lib.Dec.{ltb}
 use lib.IntN.{ℤ, pos}
 use lib.ListN.{get_or}
@@ -23,17 +23,17 @@ judged f {r} {b} {z} {y} h e p q = ap f (sym (kept w32 z h ∙ e)) ∙ sym p ∙
 -- what held where the tests were passed: of the count and the bytes, of the rate, of the subframes
 begun : (c : Else-not-is_stream) → let a = c.args in (ltb a.got 16 ≡ false) × (is_stream a.header.now ≡ true)
 begun c =
-    (le-ltb _ _ c.if-got-lt16.false, sym c.is_stream.ensures ∙ not-false _ c.if-not-is_stream.false)
+    (le-ltb _ _ c.if-got-lt16.false, sym c.is_stream.ensures ∙ c.if-not-is_stream.false)
 
 rated : (c : Else-not-is_rate) → is_rate (pos (get_or c.args.header.now 8 0)) ≡ true
 rated c =
     let s = c.signed_byte in
-    judged is_rate s.type_inv s.ensures c.is_rate.ensures (not-false _ c.if-not-is_rate.false)
+    judged is_rate s.type_inv s.ensures c.is_rate.ensures c.if-not-is_rate.false
 
 counted : (c : Else-not-is_count) → is_count (pos (get_or c.args.header.now 9 0)) ≡ true
 counted c =
     let s = c.signed_byte-2 in
-    judged is_count s.type_inv s.ensures c.is_count.ensures (not-false _ c.if-not-is_count.false)
+    judged is_count s.type_inv s.ensures c.is_count.ensures c.if-not-is_count.false
 
 pub returns-then-got-lt16 : goal.returns-then-got-lt16
 unfolding opened_of
@@ -42,34 +42,34 @@ returns-then-got-lt16 c = rw (lt-ltb _ _ c.if-got-lt16.true)
 pub returns-then-not-is_stream : goal.returns-then-not-is_stream
 unfolding opened_of
 returns-then-not-is_stream c =
-    rw (le-ltb _ _ c.if-got-lt16.false, sym c.is_stream.ensures ∙ not-true _ c.if-not-is_stream.true)
+    rw (le-ltb _ _ c.if-got-lt16.false, sym c.is_stream.ensures ∙ c.if-not-is_stream.true)
 
 pub returns-then-not-is_rate : goal.returns-then-not-is_rate
 unfolding opened_of
 returns-then-not-is_rate c =
-    let p = begun c.before.before.before.before.before in
+    let p = begun (goal.at.returns-then-not-is_rate c).Else-not-is_stream in
     let s = c.signed_byte in
-    rw (p.0, p.1, judged is_rate s.type_inv s.ensures c.is_rate.ensures (not-true _ c.if-not-is_rate.true))
+    rw (p.0, p.1, judged is_rate s.type_inv s.ensures c.is_rate.ensures c.if-not-is_rate.true)
 
 pub returns-then-not-is_count : goal.returns-then-not-is_count
 unfolding opened_of
 returns-then-not-is_count c =
-    let p = begun c.before.before.before.before.before.before.before.before in
+    let p = begun (goal.at.returns-then-not-is_count c).Else-not-is_stream in
     let s = c.signed_byte-2 in
-    rw (p.0, p.1, rated c.before.before.before, judged is_count s.type_inv s.ensures c.is_count.ensures (not-true _ c.if-not-is_count.true))
+    rw (p.0, p.1, rated (goal.at.returns-then-not-is_count c).Else-not-is_rate, judged is_count s.type_inv s.ensures c.is_count.ensures c.if-not-is_count.true)
 
 pub returns-then-samples-ge4294967296 : goal.returns-then-samples-ge4294967296
 unfolding opened_of
 returns-then-samples-ge4294967296 c =
-    let p = begun c.before.before.before.before.before.before.before.before.before.before in
+    let p = begun (goal.at.returns-then-samples-ge4294967296 c).Else-not-is_stream in
     let e = c.samples_of-samples.ensures.0 in
     let l = le-ltb (36 + 2 * samples_of c.args.header.now) 4294967296 (omega arith) in
-    rw (p.0, p.1, rated c.before.before.before.before.before, counted c.before.before, l)
+    rw (p.0, p.1, rated (goal.at.returns-then-samples-ge4294967296 c).Else-not-is_rate, counted (goal.at.returns-then-samples-ge4294967296 c).Else-not-is_count, l)
 
 pub returns : goal.returns
 unfolding opened_of
 returns c =
-    let p = begun c.before.before.before.before.before.before.before.before.before.before.before.before in
+    let p = begun (goal.at.returns c).Else-not-is_stream in
     let e = c.samples_of-samples.ensures.0 in
     let l = lt-ltb (36 + 2 * samples_of c.args.header.now) 4294967296 (omega arith) in
-    rw (p.0, p.1, rated c.before.before.before.before.before.before.before, counted c.before.before.before.before, l, e, c.u32_at.ensures)
+    rw (p.0, p.1, rated (goal.at.returns c).Else-not-is_rate, counted (goal.at.returns c).Else-not-is_count, l, e, c.u32_at.ensures)
