@@ -1,5 +1,5 @@
 -- The filter from lines and noise's.
-use mathlib.Core.Path.{◌≡◌, ap, ◌∙◌}
+use mathlib.Core.Path.{ap, ◌∙◌}
 use mathlib.Core.List.{◌++◌}
 use lib.ListN.{take, drop}
 use lib.Seq.{take_at}

@@ -5,7 +5,7 @@ use mathlib.Core.Bool.{Bool, true, false, cond}
 use mathlib.Core.List.{List, [], ◌∷◌, ◌++◌}
 use native.Mathlib.Omega.{arith}
 use lib.IntN.{ℤ, pos, ◌+ℤ◌, ◌-ℤ◌}
-use lib.ListN.{length, get_or, take, drop, replicate, length-append, length-drop, get_or-append}
+use lib.ListN.{get_or, take, drop, replicate, length-append, length-drop, get_or-append}
 use lib.Signed.{lt_z}
 use mir.Syntax.{Width, w16, w32}
 use mir.Val.{SFits}
@@ -30,7 +30,6 @@ use Rattle.decoder.proofs.Between.{either, AllBetween}
 use Rattle.decoder.proofs.Bounds.{CngHeldBounds, CngBounds, cng_fits_lem}
 use Rattle.decoder.proofs.Built.{typed_noise}
 use Rattle.decoder.proofs.Types.{AllFit, zero_fits, nil_fits, cons_fits, append-fits, drop-fits, append-words, take_words, drop-words, zeros-words}
-use Rattle.decoder.specs.With.{with_noise}
 use Rattle.cng.specs.Noise.{flat_line, cng_reset, cng_ready, smoothed_line, smoothed_lines, next_gain, smoothed_gain, moved_in, tracked, seed_at, noise_signal, silenced, sounded, added_to, comfort_noise}
 use Rattle.cng.proofs.Numbers.{flat_le}
 use Rattle.cng.proofs.Places.{room, place_lt}

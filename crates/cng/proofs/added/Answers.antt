@@ -1,18 +1,15 @@
-use Prim.Native.Nat.{ℕ, ◌-◌, ◌<◌, ◌≤◌}
-use mathlib.Core.Path.{◌≡◌, refl}
-use mathlib.Core.List.{List, ◌++◌}
+use Prim.Native.Nat.{◌<◌}
+use mathlib.Core.Path.{refl}
 use native.Mathlib.Nat.{le_antisymm, le_refl}
 use borrow.Author.Rules.{rules}
-use lib.IntN.{ℤ, pos, ◌+ℤ◌}
-use lib.ListN.{length, get_or, drop}
+use lib.IntN.{pos}
+use lib.ListN.{length, get_or}
 use mir.Syntax.{w16, w32}
-use mir.Val.{to_z}
 use mir.Facts.{to_z-of_z}
-use Rattle.word.specs.Int.{sat16}
 use Rattle.word.specs.Tabulate.{tabulate}
 use Rattle.word.proofs.Lists.{length-tabulate}
 use Rattle.word.proofs.Words.{kept, got}
-use Rattle.sigproc.specs.Synthesis.{played_q10, played}
+use Rattle.sigproc.specs.Synthesis.{played}
 use Rattle.sigproc.proofs.Fill.{turn, filled}
 use Rattle.nlsf.proofs.Parts.{rest_at}
 use Rattle.cng.proofs.added.Goals as goal

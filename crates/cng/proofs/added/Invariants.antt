@@ -1,20 +1,11 @@
-use Prim.Native.Nat.{ℕ, ◌-◌, ◌<◌, ◌≤◌}
-use mathlib.Core.Path.{◌≡◌, refl}
+use Prim.Native.Nat.{ℕ, ◌-◌, ◌≤◌}
+use mathlib.Core.Path.{◌≡◌}
 use mathlib.Core.List.{List, ◌++◌}
-use native.Mathlib.Nat.{le_antisymm, le_refl}
-use borrow.Author.Rules.{rules}
 use lib.IntN.{ℤ, pos, ◌+ℤ◌}
 use lib.ListN.{length, get_or, drop}
-use mir.Syntax.{w16, w32}
-use mir.Val.{to_z}
-use mir.Facts.{to_z-of_z}
 use Rattle.word.specs.Int.{sat16}
 use Rattle.word.specs.Tabulate.{tabulate}
-use Rattle.word.proofs.Lists.{length-tabulate}
-use Rattle.word.proofs.Words.{kept, got}
-use Rattle.sigproc.specs.Synthesis.{played_q10, played}
-use Rattle.sigproc.proofs.Fill.{turn, filled}
-use Rattle.nlsf.proofs.Parts.{rest_at}
+use Rattle.sigproc.specs.Synthesis.{played_q10}
 use Rattle.cng.proofs.added.Given as goal
 
 abbrev pub sample : List ℤ → List ℤ → ℤ → ℕ → ℤ

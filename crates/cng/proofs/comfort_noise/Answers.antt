@@ -1,5 +1,4 @@
 use mathlib.Core.Path.{◌≡◌, sym, ◌∙◌}
-use borrow.Author.Rules.{rules}
 use lib.Dec.{lit<}
 use lib.IntN.{pos}
 use lib.ListN.{length, get_or}

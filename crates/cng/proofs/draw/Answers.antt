@@ -1,6 +1,5 @@
 use Prim.Native.Nat.{◌^◌}
 use mathlib.Core.Path.{refl}
-use borrow.Author.Rules.{rules}
 use mir.Syntax.{w32}
 use mir.Facts.{to_z-of_z}
 use Rattle.word.specs.Int.{floor_div}

@@ -1,16 +1,14 @@
-use Prim.Native.Nat.{ℕ, suc, ◌+◌, ◌-◌, ◌^◌, ◌≤◌}
+use Prim.Native.Nat.{suc}
 use mathlib.Core.Path.{◌≡◌, refl}
-use mathlib.Core.List.{List, ◌++◌}
 use native.Mathlib.Nat.{le_antisymm, le_refl}
 use native.Mathlib.Numerals.{add-one}
 use native.Mathlib.Omega.{arith}
 use borrow.Author.Rules.{rules}
-use lib.IntN.{ℤ, pos}
-use lib.ListN.{length, get_or, drop}
+use lib.IntN.{pos}
+use lib.ListN.{length, get_or}
 use mir.Syntax.{w32}
 use mir.Val.{to_z, of_z}
 use mir.Facts.{to_z-of_z}
-use Rattle.word.specs.Int.{floor_div, mod_ℤ}
 use Rattle.word.specs.Tabulate.{tabulate}
 use Rattle.word.proofs.Words.{kept, got}
 use Rattle.sigproc.proofs.Fill.{turn, filled}

@@ -1,20 +1,11 @@
 use Prim.Native.Nat.{ℕ, suc, ◌+◌, ◌-◌, ◌^◌, ◌≤◌}
-use mathlib.Core.Path.{◌≡◌, refl}
+use mathlib.Core.Path.{◌≡◌}
 use mathlib.Core.List.{List, ◌++◌}
-use native.Mathlib.Nat.{le_antisymm, le_refl}
-use native.Mathlib.Numerals.{add-one}
-use native.Mathlib.Omega.{arith}
-use borrow.Author.Rules.{rules}
 use lib.IntN.{ℤ, pos}
 use lib.ListN.{length, get_or, drop}
-use mir.Syntax.{w32}
-use mir.Val.{to_z, of_z}
-use mir.Facts.{to_z-of_z}
 use Rattle.word.specs.Int.{floor_div, mod_ℤ}
 use Rattle.word.specs.Tabulate.{tabulate}
-use Rattle.word.proofs.Words.{kept, got}
-use Rattle.sigproc.proofs.Fill.{turn, filled}
-use Rattle.cng.specs.Noise.{seed_at, drawn}
+use Rattle.cng.specs.Noise.{seed_at}
 use Rattle.cng.proofs.drawn.Given as goal
 
 abbrev pub value : List ℤ → ℕ → ℤ → ℕ → ℤ

@@ -1,7 +1,5 @@
-use Prim.Native.Nat.{◌≤◌}
-use mathlib.Core.Path.{◌≡◌, refl, sym, ◌∙◌}
+use mathlib.Core.Path.{refl, sym, ◌∙◌}
 use borrow.Author.Rules.{rules}
-use Rattle.cng.specs.Noise.{halved_mask, Mask}
 use Rattle.cng.proofs.Numbers.{halved-again, halved_done, mask255, mask_half}
 use Rattle.cng.proofs.exc_mask.Goals as goal
 

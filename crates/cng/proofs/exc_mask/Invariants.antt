@@ -1,8 +1,6 @@
 use Prim.Native.Nat.{◌≤◌}
-use mathlib.Core.Path.{◌≡◌, refl, sym, ◌∙◌}
-use borrow.Author.Rules.{rules}
+use mathlib.Core.Path.{◌≡◌}
 use Rattle.cng.specs.Noise.{halved_mask, Mask}
-use Rattle.cng.proofs.Numbers.{halved-again, halved_done, mask255, mask_half}
 use Rattle.cng.proofs.exc_mask.Given as goal
 
 abbrev pub invariant-loop-mask : goal.invariant-loop-mask

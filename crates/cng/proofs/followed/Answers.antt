@@ -1,5 +1,4 @@
 use mathlib.Core.Path.{refl}
-use borrow.Author.Rules.{rules}
 use lib.Dec.{lit<}
 use mir.Syntax.{w32}
 use mir.Facts.{to_z-of_z}

@@ -1,5 +1,4 @@
 use mathlib.Core.Path.{◌≡◌, ap, ◌∙◌}
-use borrow.Author.Rules.{rules}
 use mir.Facts.{to_z-of_z}
 use Rattle.shape.specs.Shape.{order_of, rate_of}
 use Rattle.shape.proofs.Shapes.{rates, order_two}
@@ -18,8 +17,7 @@ noise-requires c =
 pub returns : goal.returns
 returns c =
     let order : c.lpc_order-d.result ≡ order_of (rate_of c.args.khz) = c.lpc_order-d.ensures ∙ ap (λ k. order_of (rate_of k)) (to_z-of_z c.ranges.khz) in
-    let at_rate : c.ready-h.result ≡ cng_ready (rate_of c.args.khz) c.args.held = rw (c.ready-h.ensures, to_z-of_z c.ranges.khz) in
-    (
-  rw (c.noise.ensures.0, order, at_rate, to_z-of_z c.ranges.edition),
-  rw (c.noise.ensures.1, order, at_rate, to_z-of_z c.ranges.edition, to_z-of_z c.ranges.scale, to_z-of_z c.ranges.last),
-)
+    let at_rate : c.ready-h.result ≡ cng_ready (rate_of c.args.khz) c.args.held = rw (c.ready-h.ensures, to_z-of_z c.ranges.khz) in (
+      rw (c.noise.ensures.0, order, at_rate, to_z-of_z c.ranges.edition),
+      rw (c.noise.ensures.1, order, at_rate, to_z-of_z c.ranges.edition, to_z-of_z c.ranges.scale, to_z-of_z c.ranges.last),
+    )

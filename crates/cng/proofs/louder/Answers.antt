@@ -1,8 +1,6 @@
 use mathlib.Core.Path.{◌≡◌, refl}
 use mathlib.Core.Bool.{true, false}
 use lib.Signed.{lt_z}
-use mir.Syntax.{w32}
-use mir.Val.{to_z, of_z}
 use mir.Facts.{to_z-of_z}
 use Rattle.word.proofs.Order.{lt_read}
 use Rattle.cng.specs.Noise.{louder}

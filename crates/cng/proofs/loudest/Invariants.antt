@@ -1,12 +1,5 @@
 use Prim.Native.Nat.{◌-◌, ◌≤◌}
-use mathlib.Core.Path.{◌≡◌, refl}
-use native.Mathlib.Nat.{le_antisymm}
-use native.Mathlib.Numerals.{add-one}
-use borrow.Author.Rules.{rules}
-use lib.IntN.{pos}
-use lib.ListN.{get_or}
-use mir.Syntax.{w32}
-use Rattle.word.proofs.Words.{kept}
+use mathlib.Core.Path.{◌≡◌}
 use Rattle.cng.specs.Noise.{loudest}
 use Rattle.cng.proofs.loudest.Given as goal
 

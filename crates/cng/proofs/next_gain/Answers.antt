@@ -1,13 +1,10 @@
 use mathlib.Core.Path.{◌≡◌}
-use mathlib.Core.Bool.{Bool}
 use lib.IntN.{pos, ◌+ℤ◌, ◌-ℤ◌}
-use lib.Signed.{lt_z}
 use mir.Syntax.{w32}
-use mir.Val.{to_z, of_z}
 use mir.Facts.{to_z-of_z}
 use Rattle.word.specs.Int.{wrap32}
 use Rattle.word.proofs.Words.{got}
-use Rattle.macros.specs.Fixed.{smulwb, smulww}
+use Rattle.macros.specs.Fixed.{smulwb}
 use Rattle.cng.specs.Noise.{next_gain}
 use Rattle.cng.proofs.next_gain.Goals as goal
 

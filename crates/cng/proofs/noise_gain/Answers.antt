@@ -1,8 +1,4 @@
-use Prim.Native.Nat.{◌^◌}
 use mathlib.Core.Path.{◌≡◌}
-use mathlib.Core.Bool.{Bool, ◌||◌}
-use lib.IntN.{pos}
-use lib.Signed.{le_z, lt_z}
 use mir.Syntax.{w32}
 use mir.Val.{to_z, of_z}
 use mir.Facts.{to_z-of_z}

@@ -1,4 +1,3 @@
-use borrow.Author.Rules.{rules}
 use Rattle.cng.specs.Noise.{silenced}
 use Rattle.cng.proofs.silenced.Goals as goal
 

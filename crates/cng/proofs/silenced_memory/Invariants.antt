@@ -1,12 +1,8 @@
 use Prim.Native.Nat.{◌-◌, ◌≤◌}
-use mathlib.Core.Path.{◌≡◌, refl}
+use mathlib.Core.Path.{◌≡◌}
 use mathlib.Core.List.{◌++◌}
-use native.Mathlib.Nat.{le_antisymm}
-use native.Mathlib.Numerals.{add-one}
-use borrow.Author.Rules.{rules}
 use lib.IntN.{pos}
 use lib.ListN.{length, drop, replicate}
-use Rattle.cng.proofs.Signals.{more-zeros}
 use Rattle.cng.proofs.silenced_memory.Given as goal
 
 abbrev pub invariant-loop-i : goal.invariant-loop-i

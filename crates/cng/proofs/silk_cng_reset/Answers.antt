@@ -1,4 +1,3 @@
-use borrow.Author.Rules.{rules}
 use mir.Facts.{to_z-of_z}
 use Rattle.shape.proofs.Shapes.{rate_kept, order_le}
 use Rattle.cng.specs.Noise.{cng_reset}

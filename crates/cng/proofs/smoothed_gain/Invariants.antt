@@ -1,14 +1,5 @@
 use Prim.Native.Nat.{◌-◌, ◌≤◌}
-use mathlib.Core.Path.{◌≡◌, refl}
-use native.Mathlib.Nat.{le_antisymm}
-use native.Mathlib.Numerals.{add-one}
-use borrow.Author.Rules.{rules}
-use lib.IntN.{pos}
-use lib.ListN.{get_or}
-use mir.Syntax.{w32}
-use mir.Val.{to_z}
-use mir.Facts.{to_z-of_z}
-use Rattle.word.proofs.Words.{kept, got}
+use mathlib.Core.Path.{◌≡◌}
 use Rattle.cng.specs.Noise.{smoothed_gain}
 use Rattle.cng.proofs.smoothed_gain.Given as goal
 

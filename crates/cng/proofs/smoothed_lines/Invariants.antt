@@ -1,16 +1,10 @@
 use Prim.Native.Nat.{ℕ, ◌-◌, ◌≤◌}
-use mathlib.Core.Path.{◌≡◌, refl}
+use mathlib.Core.Path.{◌≡◌}
 use mathlib.Core.List.{List, ◌++◌}
-use native.Mathlib.Nat.{le_antisymm}
-use native.Mathlib.Numerals.{add-one}
-use borrow.Author.Rules.{rules}
 use lib.IntN.{ℤ, pos}
 use lib.ListN.{length, get_or, drop}
-use mir.Syntax.{w16}
 use Rattle.word.specs.Tabulate.{tabulate}
-use Rattle.word.proofs.Lists.{tabulate-more}
-use Rattle.word.proofs.Words.{kept, got}
-use Rattle.cng.specs.Noise.{smoothed_line, smoothed_lines}
+use Rattle.cng.specs.Noise.{smoothed_line}
 use Rattle.cng.proofs.smoothed_lines.Given as goal
 
 abbrev pub line : List ℤ → List ℤ → ℕ → ℤ

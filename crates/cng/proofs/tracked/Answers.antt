@@ -1,13 +1,12 @@
 use Prim.Native.Nat.{◌*◌, ◌<◌}
 use mathlib.Core.Path.{◌≡◌, ap, ◌∙◌}
 use native.Mathlib.Omega.{arith}
-use borrow.Author.Rules.{rules}
 use mir.Syntax.{w32}
 use mir.Facts.{to_z-of_z}
 use Rattle.word.proofs.Words.{kept, got}
 use Rattle.shape.specs.Shape.{rate_of, count_of}
 use Rattle.shape.proofs.Shapes.{Shaped, shaped, order_le}
-use Rattle.cng.specs.Noise.{loudest, tracked}
+use Rattle.cng.specs.Noise.{tracked}
 use Rattle.cng.proofs.Places.{place_lt}
 use Rattle.cng.proofs.tracked.Goals as goal
 
