@@ -11,7 +11,11 @@ use Rattle.sentence.specs.Sentence.{signed, words, number, sentence, filled, sen
 
 pub words-short : (s : Stability) → (filled (letters (words s))).len ≤ 40
 unfolding filled words
-words-short s = elim s [ Stable g ↦ lit≤ tt | Sum ↦ lit≤ tt | Coefficient k ↦ lit≤ tt | Gain k ↦ lit≤ tt | Overflow k ↦ lit≤ tt ]
+words-short (Stable g) = lit≤ tt
+words-short Sum = lit≤ tt
+words-short (Coefficient k) = lit≤ tt
+words-short (Gain k) = lit≤ tt
+words-short (Overflow k) = lit≤ tt
 
 -- the sum alone has no number
 pub words_alone : (s : Stability) → answer_number s ≡ 1 → filled (letters (words s)) ≡ sentence_of s

@@ -15,7 +15,11 @@ use Rattle.sentence.proofs.words_of.Goals as goal
 
 known : (s : Stability) → answer_number s < 5
 unfolding answer_number
-known s = elim s [ Stable g ↦ lit< tt | Sum ↦ lit< tt | Coefficient k ↦ lit< tt | Gain k ↦ lit< tt | Overflow k ↦ lit< tt ]
+known (Stable g) = lit< tt
+known Sum = lit< tt
+known (Coefficient k) = lit< tt
+known (Gain k) = lit< tt
+known (Overflow k) = lit< tt
 
 -- the code's two tables
 abbrev texts : List Sentence
@@ -23,7 +27,11 @@ texts = map (λ s. filled (letters (words s))) (Stable (pos 0) ∷ Sum ∷ Coeff
 
 read : (s : Stability) → ◌≡◌ {A = Sentence} (record { letters = get_or (map (λ t. t.letters) texts) (answer_number s) []; len = get_or (map (λ t. t.len) texts) (answer_number s) 0 }) (filled (letters (words s)))
 unfolding answer_number words filled
-read s = elim s [ Stable g ↦ refl | Sum ↦ refl | Coefficient k ↦ refl | Gain k ↦ refl | Overflow k ↦ refl ]
+read (Stable g) = refl
+read Sum = refl
+read (Coefficient k) = refl
+read (Gain k) = refl
+read (Overflow k) = refl
 
 pub bounds-n-n : goal.bounds-n-n
 bounds-n-n c = rw c.answer_number-n.ensures (known c.args.s)

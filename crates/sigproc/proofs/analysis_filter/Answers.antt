@@ -1,7 +1,7 @@
-use Rattle.std.proofs.Common.{◌≡◌, ℕ, ◌-◌, ◌≤◌, cond, ltb, List, ◌++◌, length, drop, ℤ, pos, refl, le_antisymm, arith, w16, rules, le-ltb, lt-ltb}
+use Rattle.std.proofs.Common.{length, pos, refl, le_antisymm, arith, w16, rules, le-ltb, lt-ltb}
 use Rattle.word.specs.Tabulate.{tabulate}
 use Rattle.word.proofs.Words.{kept}
-use Rattle.sigproc.specs.Analysis.{residual, analysis}
+use Rattle.sigproc.specs.Analysis.{analysis}
 use Rattle.sigproc.proofs.Fill.{turn, filled, refill}
 use Rattle.sigproc.proofs.analysis_filter.Invariants.{output}
 use Rattle.sigproc.proofs.analysis_filter.Goals as goal

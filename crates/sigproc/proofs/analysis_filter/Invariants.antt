@@ -1,8 +1,6 @@
-use Rattle.std.proofs.Common.{◌≡◌, ℕ, ◌-◌, ◌≤◌, cond, ltb, List, ◌++◌, length, drop, ℤ, pos, refl, le_antisymm, arith, w16, rules, le-ltb, lt-ltb}
+use Rattle.std.proofs.Common.{◌≡◌, ℕ, ◌-◌, ◌≤◌, cond, ltb, List, ◌++◌, length, drop, ℤ, pos}
 use Rattle.word.specs.Tabulate.{tabulate}
-use Rattle.word.proofs.Words.{kept}
-use Rattle.sigproc.specs.Analysis.{residual, analysis}
-use Rattle.sigproc.proofs.Fill.{turn, filled, refill}
+use Rattle.sigproc.specs.Analysis.{residual}
 use Rattle.sigproc.proofs.analysis_filter.Given as goal
 
 -- the filter's output at place i

@@ -1,7 +1,5 @@
-use Rattle.std.proofs.Common.{◌≡◌, ◌-◌, ◌≤◌, length, pos, le_antisymm, add-one, arith, w16, rules}
-use lib.Seq.{paste, paste-zero, paste-suc, take-length}
-use Rattle.word.proofs.Words.{kept}
-use Rattle.sigproc.specs.Place.{put_at}
+use Rattle.std.proofs.Common.{◌≡◌, ◌-◌, ◌≤◌, length}
+use lib.Seq.{paste}
 use Rattle.sigproc.proofs.copy16_at.Given as goal
 
 abbrev pub invariant-loop-i : goal.invariant-loop-i

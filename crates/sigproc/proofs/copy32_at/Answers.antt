@@ -1,5 +1,5 @@
-use Rattle.std.proofs.Common.{◌≡◌, ◌-◌, ◌≤◌, length, pos, le_antisymm, add-one, arith, w32, rules}
-use lib.Seq.{paste, paste-zero, paste-suc, take-length}
+use Rattle.std.proofs.Common.{pos, le_antisymm, add-one, arith, w32, rules}
+use lib.Seq.{paste-zero, paste-suc, take-length}
 use Rattle.word.proofs.Words.{kept}
 use Rattle.sigproc.specs.Place.{put_at}
 use Rattle.sigproc.proofs.copy32_at.Goals as goal

@@ -1,4 +1,4 @@
-use Rattle.std.proofs.Common.{◌≡◌, ◌+◌, ◌-◌, ◌*◌, ◌/◌, ◌%◌, ◌^◌, ◌≤◌, length, get_or, pos, refl, le_antisymm, add-one, arith, w16, rules}
+use Rattle.std.proofs.Common.{◌≡◌, ◌+◌, ◌-◌, ◌*◌, ◌^◌, length, get_or, pos, refl, le_antisymm, add-one, arith, w16, rules}
 use Rattle.word.proofs.Words.{kept}
 use Rattle.sigproc.specs.Energy.{square, pairs}
 use Rattle.sigproc.proofs.Energies.{energy_even, energy_odd, more_le}

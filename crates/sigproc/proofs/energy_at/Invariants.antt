@@ -1,7 +1,5 @@
-use Rattle.std.proofs.Common.{◌≡◌, ◌+◌, ◌-◌, ◌*◌, ◌/◌, ◌%◌, ◌^◌, ◌≤◌, length, get_or, pos, refl, le_antisymm, add-one, arith, w16, rules}
-use Rattle.word.proofs.Words.{kept}
-use Rattle.sigproc.specs.Energy.{square, pairs}
-use Rattle.sigproc.proofs.Energies.{energy_even, energy_odd, more_le}
+use Rattle.std.proofs.Common.{◌≡◌, ◌-◌, ◌*◌, ◌/◌, ◌%◌, ◌^◌, ◌≤◌, length}
+use Rattle.sigproc.specs.Energy.{pairs}
 use Rattle.sigproc.proofs.energy_at.Given as goal
 
 abbrev pub invariant-loop-m : goal.invariant-loop-m

@@ -1,4 +1,4 @@
-use Rattle.std.proofs.Common.{◌≡◌, ◌-◌, ◌≤◌, refl, le_antisymm, add-one, w16, w32, to_z, rules}
+use Rattle.std.proofs.Common.{refl, le_antisymm, add-one, w16, w32, rules}
 use Rattle.word.proofs.Words.{kept}
 use Rattle.sigproc.specs.Synthesis.{ltp_prediction}
 use Rattle.sigproc.proofs.ltp_prediction.Goals as goal

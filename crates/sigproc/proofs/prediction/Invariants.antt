@@ -1,10 +1,6 @@
-use Rattle.std.proofs.Common.{◌≡◌, ◌-◌, ◌/◌, ◌≤◌, get_or, pos, le_antisymm, add-one, arith, w16, w32, to_z, rules}
-use native.Mathlib.Nat.{sub-zero}
-use mir.Facts.{to_z_pos}
-use Rattle.word.proofs.Words.{kept}
+use Rattle.std.proofs.Common.{◌≡◌, ◌-◌, ◌≤◌, get_or, pos}
 use Rattle.macros.specs.Fixed.{smlawb}
 use Rattle.sigproc.specs.Synthesis.{prediction}
-use Rattle.sigproc.proofs.Predict.{smlawb_swap}
 use Rattle.sigproc.proofs.prediction.Given as goal
 
 -- the sum so far is the prediction but for the newest sample

@@ -1,5 +1,4 @@
-use Rattle.std.proofs.Common.{◌≡◌, ◌-◌, ◌≤◌, refl, le_antisymm, add-one, w16, w32, to_z, rules}
-use Rattle.word.proofs.Words.{kept}
+use Rattle.std.proofs.Common.{◌≡◌, ◌-◌, ◌≤◌}
 use Rattle.sigproc.specs.Analysis.{products}
 use Rattle.sigproc.proofs.products.Given as goal
 

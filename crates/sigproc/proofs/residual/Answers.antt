@@ -1,4 +1,4 @@
-use Rattle.std.proofs.Common.{◌^◌, get_or, ℤ, pos, ◌*ℤ◌, neg_ℤ, ap, w16, w32, rules}
+use Rattle.std.proofs.Common.{◌^◌, get_or, pos, ◌*ℤ◌, neg_ℤ, ap, w16, w32}
 use Rattle.word.specs.Int.{sat16}
 use Rattle.word.proofs.Words.{kept, wrap_add_l}
 use Rattle.macros.specs.Fixed.{rshift_round}

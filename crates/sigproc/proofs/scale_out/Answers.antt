@@ -1,4 +1,4 @@
-use Rattle.std.proofs.Common.{◌≡◌, ℕ, ◌-◌, ◌^◌, ◌≤◌, ◌++◌, length, get_or, drop, pos, refl, ◌∙◌, le_antisymm, arith, to_z-of_z, w16, w32, to_z, rules}
+use Rattle.std.proofs.Common.{ℕ, ◌^◌, length, get_or, pos, refl, ◌∙◌, le_antisymm, arith, to_z-of_z, w16, w32, rules}
 use Rattle.word.specs.Int.{floor_div}
 use Rattle.word.specs.Tabulate.{tabulate}
 use Rattle.word.proofs.Words.{kept}

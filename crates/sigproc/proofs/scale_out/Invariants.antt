@@ -1,9 +1,6 @@
-use Rattle.std.proofs.Common.{◌≡◌, ℕ, ◌-◌, ◌^◌, ◌≤◌, ◌++◌, length, get_or, drop, pos, refl, ◌∙◌, le_antisymm, arith, to_z-of_z, w16, w32, to_z, rules}
-use Rattle.word.specs.Int.{floor_div}
+use Rattle.std.proofs.Common.{◌≡◌, ℕ, ◌-◌, ◌≤◌, ◌++◌, length, get_or, drop, pos}
 use Rattle.word.specs.Tabulate.{tabulate}
-use Rattle.word.proofs.Words.{kept}
-use Rattle.sigproc.specs.Synthesis.{played_q10, played}
-use Rattle.sigproc.proofs.Fill.{turn, filled, map-table}
+use Rattle.sigproc.specs.Synthesis.{played_q10}
 use Rattle.sigproc.proofs.scale_out.Given as goal
 
 abbrev pub invariant-loop-i : goal.invariant-loop-i

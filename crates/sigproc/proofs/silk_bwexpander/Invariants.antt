@@ -1,7 +1,5 @@
-use Rattle.std.proofs.Common.{◌≡◌, ◌-◌, ◌≤◌, refl, le_refl, le_antisymm, add-one, to_z-of_z, w16, w32, to_z, of_z, rules}
-use Rattle.word.proofs.Words.{kept}
+use Rattle.std.proofs.Common.{◌≡◌, ◌-◌, ◌≤◌}
 use Rattle.sigproc.specs.Expand.{factor, bwexpander}
-use Rattle.sigproc.proofs.Shrink.{expand_past}
 use Rattle.sigproc.proofs.silk_bwexpander.Given as goal
 
 abbrev pub invariant-loop-j : goal.invariant-loop-j

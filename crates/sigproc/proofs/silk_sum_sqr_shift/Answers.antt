@@ -1,4 +1,4 @@
-use Rattle.std.proofs.Common.{◌≡◌, ◌+◌, ◌-◌, ◌*◌, ◌^◌, ◌<◌, ◌≤◌, length, ap, mod-eq_of_lt, arith, w32, rules}
+use Rattle.std.proofs.Common.{◌≡◌, ◌+◌, ◌-◌, ◌*◌, ◌^◌, ◌<◌, ◌≤◌, length, ap, mod-eq_of_lt, arith, w32}
 use lib.Count.{count_leading_zeros, leading_top}
 use mir.Facts.{to_z_pos}
 use Rattle.sigproc.specs.Energy.{energy_at, first_shift, energy_shift, sum_sqr_shift}

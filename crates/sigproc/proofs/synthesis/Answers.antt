@@ -1,4 +1,3 @@
-use Rattle.std.proofs.Common.{rules}
 use Rattle.sigproc.proofs.Orders.{other}
 use Rattle.sigproc.proofs.synthesis.Goals as goal
 

@@ -1,8 +1,5 @@
-use Rattle.std.proofs.Common.{◌≡◌, suc, ◌+◌, ◌-◌, ◌≤◌, ◌++◌, length, get_or, take, drop, pos, sym, refl, le_antisymm, add-one, arith, take-append-drop, w32, rules}
-use Rattle.word.proofs.Words.{kept}
+use Rattle.std.proofs.Common.{◌≡◌, ◌+◌, ◌-◌, ◌≤◌, ◌++◌, length, take, drop}
 use Rattle.sigproc.specs.Synthesis.{synthesis}
-use Rattle.sigproc.proofs.Fill.{filled}
-use Rattle.sigproc.proofs.InPlace.{synthesis-turn}
 use Rattle.sigproc.proofs.synthesis_of_order.Given as goal
 
 abbrev pub invariant-loop-i : goal.invariant-loop-i
