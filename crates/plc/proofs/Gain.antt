@@ -1,11 +1,11 @@
 -- The gain of noise after a frame that was not voiced: its shift loses nothing.
 use Prim.Native.Nat.{ℕ, ◌*◌, ◌^◌, ◌≤◌}
-use mathlib.Core.Path.{◌≡◌, refl, ap}
+use mathlib.Core.Path.{◌≡◌, refl}
 use mathlib.Core.Bool.{Bool, true, false}
 use native.Mathlib.Omega.{arith}
-use borrow.Author.Tests.{ltb-true, ltb-false}
+use borrow.Author.Tests.{ltb-false}
 use lib.Dec.{ltb}
-use lib.IntN.{ℤ, pos, nat_abs, ◌*ℤ◌}
+use lib.IntN.{pos, ◌*ℤ◌}
 use mir.Syntax.{w32}
 use Rattle.word.specs.Int.{wrap32, min_ℤ, max_ℤ}
 use Rattle.word.proofs.Words.{wrap_id}

@@ -1,11 +1,11 @@
 -- The lag (Q8) stays in 512r to 4,608r, so that the lag is in 2r to 18r.
 use Prim.Native.Nat.{ℕ, zero, suc, ◌+◌, ◌*◌, ◌/◌, ◌^◌, ◌<◌, ◌≤◌}
-use mathlib.Core.Path.{◌≡◌, refl, sym, ap, ◌∙◌}
+use mathlib.Core.Path.{◌≡◌, refl, ap, ◌∙◌}
 use mathlib.Core.Bool.{Bool, true, false}
 use mathlib.Core.List.{List}
 use native.Mathlib.Omega.{arith}
 use native.Mathlib.Nat.{le_refl}
-use borrow.Author.Tests.{ltb-true, ltb-false}
+use borrow.Author.Tests.{ltb-true}
 use lib.Dec.{ltb}
 use lib.IntN.{ℤ, pos, nat_abs}
 use mir.Syntax.{w16, w32}
@@ -14,8 +14,8 @@ use Rattle.word.proofs.Words.{wrap_id}
 use Rattle.word.proofs.Sizes.{abs-fits}
 use Rattle.macros.specs.Fixed.{smulwb, smlawb, round_shift, rshift_round}
 use Rattle.shape.specs.Shape.{Shape, subfr_length}
-use Rattle.decoder.proofs.Between.{Between, between}
-use Rattle.plc.specs.Conceal.{Voice, lag_of, excited_times, faded_voice, voices}
+use Rattle.decoder.proofs.Between.{Between}
+use Rattle.plc.specs.Conceal.{Voice, lag_of, faded_voice, voices}
 use Rattle.plc.proofs.Excite.{times_pitch}
 
 -- a lag (Q8) at a rate r

@@ -1,15 +1,14 @@
 -- What holds of a shape's order, of concealment that is ready for a rate, and of one loss more.
 use Prim.Native.Nat.{ℕ, zero, suc, ◌+◌, ◌*◌, ◌^◌, ◌<◌, ◌≤◌}
-use mathlib.Core.Path.{◌≡◌, refl, sym, ap, ◌∙◌}
+use mathlib.Core.Path.{◌≡◌, refl, sym}
 use mathlib.Core.Logic.{◌⊎◌, inl, inr}
 use mathlib.Core.Bool.{Bool, true, false, cond}
-use mathlib.Core.List.{List, [], ◌∷◌}
+use mathlib.Core.List.{[], ◌∷◌}
 use native.Mathlib.Omega.{arith}
 use borrow.Author.Tests.{eqb-false, ltb-true, ltb-false}
 use lib.Dec.{ltb, lit≤}
-use lib.IntN.{ℤ, pos, nat_abs, ◌+ℤ◌}
+use lib.IntN.{pos, ◌+ℤ◌}
 use lib.ListN.{get_or}
-use mir.Syntax.{w32}
 use Rattle.word.specs.Int.{wrap32, eq_ℤ}
 use Rattle.word.proofs.Order.{eq_ℤ_true}
 use Rattle.word.proofs.Sizes.{abs-fits}
@@ -18,7 +17,7 @@ use Rattle.shape.specs.Shape.{Shape, order_of}
 use Rattle.shape.proofs.Shapes.{Rates, at8, at12, at16, Shaped}
 use Rattle.decoder.specs.declared.SilkPLCState.{SilkPLCState}
 use Rattle.decoder.proofs.Between.{Between}
-use Rattle.decoder.proofs.Bounds.{PlcBounds, PlcHeldBounds, SubframeBounds, short}
+use Rattle.decoder.proofs.Bounds.{PlcBounds, PlcHeldBounds, short}
 use Rattle.plc.specs.Hold.{plc_reset, plc_ready}
 
 pub orders : {r : ℕ} → Rates r → ((order_of r ≡ 10) ⊎ (order_of r ≡ 16)) × (order_of r + 2 ≤ 2 * r)

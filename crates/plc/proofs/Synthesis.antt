@@ -1,11 +1,11 @@
 -- The synthesis in the buffer: the memory goes in front of the frame's excitation, and the samples replace it.
 use Prim.Native.Nat.{ℕ, ◌+◌, ◌-◌, ◌≤◌}
-use mathlib.Core.Path.{◌≡◌, refl, sym, ap, ◌∙◌}
-use mathlib.Core.List.{List, [], ◌++◌, append_assoc, append-nil}
+use mathlib.Core.Path.{◌≡◌, ap, ◌∙◌}
+use mathlib.Core.List.{List, ◌++◌, append_assoc}
 use native.Mathlib.Omega.{arith}
 use borrow.Rule.Slice.PartMut.{put_mid, post_of}
 use lib.IntN.{ℤ}
-use lib.ListN.{length, take, drop, length-take, length-drop, length-append, drop_of_length-le}
+use lib.ListN.{length, take, drop, length-drop, length-append}
 use lib.Seq.{take-add, take_at, drop_at, take-append-add, drop-append-add, drop-append-le, length-take-le}
 use Rattle.sigproc.specs.Place.{put_at}
 use Rattle.sigproc.specs.Synthesis.{synthesis}

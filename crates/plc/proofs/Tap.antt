@@ -1,13 +1,13 @@
 -- The middle tap stays in -11,456 to 15,565 for every sum of 0 to 32,767.
-use Prim.Native.Nat.{ℕ, ◌+◌, ◌*◌, ◌/◌, ◌^◌, ◌<◌, ◌≤◌}
-use mathlib.Core.Path.{◌≡◌, refl, ap, ◌∙◌}
+use Prim.Native.Nat.{ℕ, ◌*◌, ◌/◌, ◌^◌, ◌<◌, ◌≤◌}
+use mathlib.Core.Path.{◌≡◌, refl}
 use mathlib.Core.Bool.{Bool, true, false, cond}
 use native.Mathlib.Omega.{arith}
 use native.Mathlib.Nat.{mul-le-mul, mul-le-mul_right, mul-div-le, lt_of_mul-lt-mul_left}
 use borrow.Author.Tests.{lt-ltb, ltb-true, ltb-false}
 use lib.Dec.{ltb}
 use lib.IntN.{ℤ, pos, nat_abs, ◌*ℤ◌}
-use lib.Signed.{lt_z, quot_z}
+use lib.Signed.{quot_z}
 use mir.Syntax.{w16}
 use mir.Val.{SFits}
 use Rattle.word.specs.Int.{floor_div, wrap16, max_ℤ}

@@ -1,10 +1,9 @@
 -- What concealment holds after a received frame stays in its ranges.
-use Prim.Native.Nat.{ℕ, zero, suc, ◌+◌, ◌-◌, ◌*◌, ◌^◌, ◌<◌, ◌≤◌}
-use mathlib.Core.Path.{◌≡◌, refl, sym, ap, ◌∙◌}
+use Prim.Native.Nat.{ℕ, zero, suc, ◌-◌, ◌*◌, ◌^◌, ◌<◌, ◌≤◌}
+use mathlib.Core.Path.{◌≡◌, refl, sym}
 use mathlib.Core.Bool.{Bool, true, false, cond, ◌&&◌, false≢true}
 use mathlib.Core.List.{List, [], ◌∷◌}
 use native.Mathlib.Omega.{arith}
-use borrow.Author.Tests.{ltb-true}
 use lib.IntN.{ℤ, pos, negsuc, nat_abs, ◌*ℤ◌}
 use lib.ListN.{get_or}
 use lib.Signed.{lt_z}
@@ -14,15 +13,15 @@ use Rattle.word.specs.Int.{eq_ℤ, wrap16, wrap32}
 use Rattle.word.proofs.Order.{eq_ℤ_true}
 use Rattle.word.proofs.Rows.{both}
 use Rattle.word.proofs.Words.{wrap_id}
-use Rattle.shape.specs.Shape.{Shape, subfr_length, frame_length}
+use Rattle.shape.specs.Shape.{Shape}
 use Rattle.shape.proofs.Shapes.{Shaped}
 use Rattle.decoder.proofs.Between.{Between, AllBetween}
-use Rattle.decoder.proofs.Bounds.{TapBounds, SubframeBounds, short, whole, PlcHeldBounds, PlcBounds}
+use Rattle.decoder.proofs.Bounds.{short, whole, PlcHeldBounds, PlcBounds}
 use Rattle.decoder.specs.declared.SilkPLCState.{SilkPLCState}
 use Rattle.decoder.specs.declared.SilkDecoderControl.{SilkDecoderControl}
 use Rattle.judge.specs.Taps.{tap_sum}
 use Rattle.plc.specs.Hold.{plc_reset, plc_ready}
-use Rattle.plc.specs.Update.{stronger, strongest, scaled_tap, pulse_of, plc_updated}
+use Rattle.plc.specs.Update.{stronger, strongest, pulse_of, plc_updated}
 use Rattle.plc.specs.declared.update.Pulse.{Pulse}
 use Rattle.plc.specs.declared.update.Strongest.{Strongest}
 use Rattle.plc.proofs.Tap.{Middle, tap_range}

@@ -1,5 +1,5 @@
 -- What concealment holds, and its reset (plc.rs, silk_plc_reset).
-use Rattle.std.specs.Prelude.{ℕ, ◌*◌, ◌^◌, cond, List, [], ◌∷◌, ℤ, pos}
+use Rattle.std.specs.Prelude.{◌*◌, ◌^◌, cond, List, [], ◌∷◌, ℤ, pos}
 use Rattle.word.specs.Int.{eq_ℤ}
 use Rattle.shape.specs.Shape.{Shape, frame_length}
 use Rattle.decoder.specs.declared.SilkPLCState.{SilkPLCState}

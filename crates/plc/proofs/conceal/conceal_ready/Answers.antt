@@ -1,19 +1,16 @@
-use Prim.Native.Nat.{◌+◌, ◌*◌, ◌≤◌}
-use mathlib.Core.Path.{◌≡◌, sym, ◌∙◌}
-use mathlib.Core.List.{List, ◌++◌, map}
-use native.Mathlib.Omega.{arith}
+use Prim.Native.Nat.{◌*◌}
+use mathlib.Core.Path.{◌≡◌, ◌∙◌}
+use mathlib.Core.List.{◌++◌, map}
 use borrow.Author.Rules.{rules}
-use lib.IntN.{ℤ, pos}
 use lib.ListN.{length, drop}
 use mir.Syntax.{w32}
-use mir.Val.{to_z, of_z}
 use mir.Facts.{to_z-of_z}
 use Rattle.word.proofs.Words.{kept}
 use Rattle.sigproc.specs.Synthesis.{played}
-use Rattle.shape.specs.Shape.{Shape, rate_of, order_of}
+use Rattle.shape.specs.Shape.{Shape, rate_of}
 use Rattle.shape.proofs.Shapes.{rate_le}
 use Rattle.decoder.proofs.Between.{between-back}
-use Rattle.decoder.proofs.Bounds.{PlcHeldBounds, plc_held-bounds, subframes-fit}
+use Rattle.decoder.proofs.Bounds.{plc_held-bounds, subframes-fit}
 use Rattle.plc.specs.Conceal.{heard, noise_place, coefficients, later_gain, voice_by, voice, signal_by, signal, concealed, concealed_by}
 use Rattle.plc.proofs.Noise.{noise_room}
 use Rattle.plc.proofs.Rewhiten.{order_range}

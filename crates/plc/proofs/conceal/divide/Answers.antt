@@ -1,20 +1,13 @@
-use Prim.Native.Nat.{ℕ, ◌≤◌, ◌-◌}
-use mathlib.Core.Path.{◌≡◌, refl, ◌∙◌}
-use mathlib.Core.Bool.{cond}
-use mathlib.Core.List.{◌++◌}
+use mathlib.Core.Path.{refl}
 use native.Mathlib.Nat.{le_antisymm}
 use native.Mathlib.Omega.{arith}
 use borrow.Author.Rules.{rules}
 use borrow.Author.Tests.{le-ltb}
-use lib.Dec.{ltb}
 use lib.IntN.{pos}
-use lib.ListN.{length, get_or, drop}
+use lib.ListN.{get_or}
 use mir.Syntax.{w16, w32}
-use mir.Val.{to_z}
 use mir.Facts.{to_z-of_z}
-use Rattle.word.specs.Tabulate.{tabulate}
 use Rattle.word.proofs.Words.{kept, got}
-use Rattle.macros.specs.Fixed.{smulwb}
 use Rattle.sigproc.proofs.Fill.{turn}
 use Rattle.plc.proofs.Fill.{zeros-before}
 use Rattle.plc.proofs.conceal.divide.Goals as goal

@@ -1,17 +1,9 @@
-use Prim.Native.Nat.{suc, ◌+◌, ◌≤◌, ◌-◌}
-use mathlib.Core.Path.{◌≡◌, refl, ◌∙◌}
+use Prim.Native.Nat.{◌+◌, ◌≤◌, ◌-◌}
+use mathlib.Core.Path.{◌≡◌}
 use mathlib.Core.List.{List}
-use native.Mathlib.Numerals.{add-one}
-use native.Mathlib.Nat.{le_antisymm}
-use native.Mathlib.Omega.{arith}
-use borrow.Author.Rules.{rules}
-use lib.IntN.{ℤ, pos}
-use lib.ListN.{length, get_or, take}
-use mir.Syntax.{w16, w32}
-use mir.Val.{to_z, of_z}
-use Rattle.word.proofs.Words.{kept, got}
+use lib.IntN.{ℤ}
+use lib.ListN.{length, take}
 use Rattle.plc.specs.Conceal.{Voice, excited_times}
-use Rattle.plc.proofs.Excite.{seed_more, past_more}
 use Rattle.plc.proofs.conceal.excite.Given as goal
 
 -- what the loop starts from; nothing in it reads the pitch

@@ -1,17 +1,9 @@
 use Prim.Native.Nat.{ℕ, ◌≤◌, ◌-◌}
-use mathlib.Core.Path.{◌≡◌, refl, ◌∙◌}
-use mathlib.Core.List.{◌++◌, map}
-use native.Mathlib.Nat.{le_antisymm}
-use native.Mathlib.Omega.{arith}
-use borrow.Author.Rules.{rules}
+use mathlib.Core.Path.{◌≡◌}
+use mathlib.Core.List.{◌++◌}
 use lib.IntN.{pos}
 use lib.ListN.{length, get_or, drop}
-use mir.Syntax.{w16, w32}
-use mir.Val.{to_z}
-use mir.Facts.{to_z-of_z}
 use Rattle.word.specs.Tabulate.{tabulate}
-use Rattle.word.proofs.Words.{kept, got}
-use Rattle.sigproc.proofs.Fill.{turn, filled, map-table}
 use Rattle.plc.specs.Conceal.{faded}
 use Rattle.plc.proofs.conceal.faded_taps.Given as goal
 

@@ -1,4 +1,3 @@
-use mathlib.Core.Path.{refl}
 use lib.Dec.{lit<}
 use mir.Syntax.{w32}
 use Rattle.word.proofs.Order.{is, isnt}

@@ -1,4 +1,3 @@
-use mathlib.Core.Path.{refl}
 use mir.Syntax.{w32}
 use mir.Facts.{to_z-of_z}
 use Rattle.word.proofs.Words.{got}

@@ -1,5 +1,3 @@
-use mathlib.Core.Path.{refl, ◌∙◌}
-use borrow.Author.Rules.{rules}
 use lib.Dec.{lit<}
 use lib.ListN.{take}
 use mir.Syntax.{w32}

@@ -1,5 +1,3 @@
-use mathlib.Core.Path.{refl, ◌∙◌}
-use borrow.Author.Rules.{rules}
 use lib.Dec.{lit<}
 use mir.Syntax.{w16, w32}
 use mir.Facts.{to_z-of_z}

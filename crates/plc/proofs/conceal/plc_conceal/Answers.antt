@@ -1,12 +1,9 @@
-use Prim.Native.Nat.{◌+◌, ◌*◌, ◌≤◌}
 use mathlib.Core.Path.{◌≡◌, refl, ap, ◌∙◌}
-use native.Mathlib.Omega.{arith}
-use borrow.Author.Rules.{rules}
-use lib.IntN.{ℤ, pos, ◌+ℤ◌}
+use lib.IntN.{pos, ◌+ℤ◌}
 use mir.Syntax.{w32}
 use mir.Val.{to_z, of_z}
 use Rattle.word.proofs.Words.{kept}
-use Rattle.shape.specs.Shape.{shape, rate_of, count_of, order_of, frame_length}
+use Rattle.shape.specs.Shape.{rate_of, count_of, order_of}
 use Rattle.shape.proofs.Shapes.{rates, counts, shape-bounds, count_le}
 use Rattle.decoder.specs.With.{with_memory, with_losses, with_plc}
 use Rattle.decoder.specs.State.{shape_of}

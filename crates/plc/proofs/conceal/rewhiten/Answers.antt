@@ -1,10 +1,9 @@
-use Prim.Native.Nat.{◌≤◌}
-use mathlib.Core.Path.{◌≡◌, ap}
+use mathlib.Core.Path.{ap}
 use mathlib.Core.List.{List, ◌++◌}
 use native.Mathlib.Omega.{arith}
 use borrow.Author.Rules.{rules}
-use lib.IntN.{ℤ, pos}
-use lib.ListN.{length, drop, replicate, length-replicate}
+use lib.IntN.{ℤ}
+use lib.ListN.{drop}
 use mir.Facts.{to_z-of_z}
 use Rattle.plc.proofs.Rewhiten.{rewhitened-part}
 use Rattle.plc.proofs.conceal.rewhiten.Goals as goal

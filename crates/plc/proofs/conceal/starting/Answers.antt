@@ -1,4 +1,4 @@
-use mathlib.Core.Path.{◌≡◌, refl, ◌∙◌}
+use mathlib.Core.Path.{◌≡◌, ◌∙◌}
 use mir.Syntax.{w16, w32}
 use mir.Val.{to_z, of_z}
 use mir.Facts.{to_z-of_z}

@@ -1,9 +1,9 @@
-use Prim.Native.Nat.{◌+◌, ◌*◌, ◌≤◌}
-use mathlib.Core.Path.{◌≡◌, refl, ap, ◌∙◌}
+use Prim.Native.Nat.{◌*◌}
+use mathlib.Core.Path.{◌≡◌, ap, ◌∙◌}
 use mathlib.Core.List.{map}
 use native.Mathlib.Omega.{arith}
 use borrow.Author.Rules.{rules}
-use lib.IntN.{ℤ, pos, nat_abs}
+use lib.IntN.{pos, nat_abs}
 use lib.ListN.{take}
 use mir.Syntax.{w16, w32}
 use mir.Val.{to_z, of_z}

@@ -1,8 +1,7 @@
 use Prim.Native.Nat.{zero, suc}
-use mathlib.Core.Path.{◌≡◌, refl, ◌∙◌}
+use mathlib.Core.Path.{◌≡◌}
 use mathlib.Core.List.{[], ◌∷◌}
 use native.Mathlib.Omega.{arith}
-use borrow.Author.Rules.{rules}
 use lib.IntN.{ℤ, ◌+ℤ◌}
 use mir.Syntax.{w16, w32}
 use mir.Val.{SFits, to_z, of_z}

@@ -1,6 +1,5 @@
 use native.Mathlib.Nat.{mul-le-mul}
 use native.Mathlib.Omega.{arith}
-use borrow.Author.Rules.{rules}
 use Rattle.plc.proofs.update.before_end.Goals as goal
 
 pub overflow_mul-n : goal.overflow_mul-n

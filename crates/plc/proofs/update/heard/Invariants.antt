@@ -1,20 +1,11 @@
 use Prim.Native.Nat.{ℕ, ◌≤◌, ◌-◌, ◌^◌}
-use mathlib.Core.Path.{◌≡◌, refl, ◌∙◌}
+use mathlib.Core.Path.{◌≡◌}
 use mathlib.Core.List.{◌++◌}
-use native.Mathlib.Nat.{le_antisymm}
-use native.Mathlib.Omega.{arith}
-use borrow.Author.Rules.{rules}
 use lib.IntN.{ℤ, pos}
 use lib.ListN.{length, get_or, drop}
-use mir.Syntax.{w16, w32}
-use mir.Val.{to_z}
-use mir.Facts.{to_z-of_z}
 use Rattle.word.specs.Int.{floor_div, sat16}
 use Rattle.word.specs.Tabulate.{tabulate}
-use Rattle.word.proofs.Words.{kept}
 use Rattle.macros.specs.Fixed.{smulww}
-use Rattle.plc.specs.Conceal.{heard_by}
-use Rattle.sigproc.proofs.Fill.{turn, filled, map-table}
 use Rattle.plc.proofs.update.heard.Given as goal
 
 -- a sample played by a gain (Q10)

@@ -1,5 +1,4 @@
 use mathlib.Core.Path.{◌≡◌, ◌∙◌, ap}
-use borrow.Author.Rules.{rules}
 use mir.Facts.{to_z-of_z}
 use Rattle.shape.specs.Shape.{count_of}
 use Rattle.shape.proofs.Shapes.{count_le}

@@ -4,7 +4,7 @@ use mir.Syntax.{w16, w32}
 use mir.Val.{to_z, of_z}
 use mir.Facts.{to_z-of_z}
 use Rattle.word.specs.Int.{max_ℤ}
-use Rattle.word.proofs.Words.{kept, got}
+use Rattle.word.proofs.Words.{got}
 use Rattle.macros.proofs.Normal.{quot_fits}
 use Rattle.plc.proofs.Numbers.{max_one}
 use Rattle.plc.proofs.update.scaled_by.Goals.{After-silk_max_32}

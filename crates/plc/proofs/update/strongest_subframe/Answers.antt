@@ -1,5 +1,5 @@
 use Prim.Native.Nat.{◌*◌, ◌-◌, ◌≤◌}
-use mathlib.Core.Path.{◌≡◌, refl, ◌∙◌}
+use mathlib.Core.Path.{refl}
 use native.Mathlib.Numerals.{add-one}
 use native.Mathlib.Omega.{arith}
 use native.Mathlib.Nat.{le_antisymm, mul-le-mul}
@@ -10,14 +10,13 @@ use mir.Syntax.{w32}
 use mir.Val.{to_z, of_z}
 use mir.Facts.{to_z-of_z, to_z_pos}
 use Rattle.word.proofs.Words.{kept, got}
-use Rattle.shape.specs.Shape.{rate_of}
 use Rattle.shape.proofs.Shapes.{rate_le}
 use Rattle.plc.specs.Update.{strongest}
 use Rattle.plc.proofs.update.strongest_subframe.Goals.{In-loop-j}
 use Rattle.plc.proofs.update.strongest_subframe.Goals as goal
 
 -- the place of a subframe from the frame's end
-start : (c : In-loop-j) →  c.loop-j.j * c.subfr_length-l.result ≤ 320
+start : (c : In-loop-j) → c.loop-j.j * c.subfr_length-l.result ≤ 320
 start c =
     let a : c.subfr_length-l.result ≤ 80 = omega (arith, c.subfr_length-l.ensures, rate_le (to_z w32 (of_z w32 c.args.khz))) in
     let b : c.loop-j.j ≤ 4 = omega arith in
