@@ -1,5 +1,4 @@
 use Rattle.stream.specs.Header.{is_stream}
-use borrow.Author.Rules.{rules}
 use Rattle.stream.proofs.is_stream.Goals as goal
 
 pub returns : goal.returns

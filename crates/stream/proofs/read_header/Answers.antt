@@ -12,7 +12,6 @@ use mir.Val.{to_z, of_z, hbits}
 use Rattle.word.proofs.Words.{kept}
 use Rattle.shape.specs.Shape.{is_rate, is_count}
 use Rattle.stream.specs.Header.{is_stream, samples_of, opened_of}
-use borrow.Author.Rules.{rules}
 use Rattle.stream.proofs.read_header.Goals.{Else-not-is_count, Else-not-is_rate, Else-not-is_stream}
 use Rattle.stream.proofs.read_header.Goals as goal
 

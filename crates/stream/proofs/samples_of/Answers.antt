@@ -7,7 +7,6 @@ use Rattle.word.proofs.Words.{kept}
 use Rattle.shape.specs.Shape.{shape, frame_length}
 use Rattle.shape.proofs.Shapes.{frame_le}
 use Rattle.stream.specs.Header.{samples_of}
-use borrow.Author.Rules.{rules}
 use Rattle.stream.proofs.samples_of.Goals as goal
 
 pub overflow_mul-result : goal.overflow_mul-result

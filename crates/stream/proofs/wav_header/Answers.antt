@@ -1,5 +1,4 @@
 use Rattle.stream.specs.Wav.{wav_header}
-use borrow.Author.Rules.{rules}
 use Rattle.stream.proofs.wav_header.Goals as goal
 
 pub returns : goal.returns
