@@ -1,12 +1,12 @@
 -- What is read of a recording, refused or not.
-use Prim.Native.Nat.{ℕ, ◌+◌, ◌*◌, ◌≤◌, ◌<◌, ◌/◌}
-use mathlib.Core.Path.{◌≡◌, refl, sym, ap, ◌∙◌, subst}
+use Prim.Native.Nat.{ℕ, ◌≤◌, ◌<◌}
+use mathlib.Core.Path.{◌≡◌, refl}
 use mathlib.Core.Bool.{Bool, true, false, not, ◌&&◌, false≢true}
 use mathlib.Core.List.{List, [], ◌∷◌}
 use native.Mathlib.Omega.{arith}
 use borrow.Author.Tests.{eq-eqb, ne_eqb, not-false}
 use lib.IntN.{pos}
-use lib.ListN.{length, get_or, replicate}
+use lib.ListN.{length, replicate}
 use Rattle.refusal.specs.First.{◌gives◌, first_or}
 use Rattle.refusal.specs.Refusals.{refusal_number}
 use Rattle.refusal.specs.declared.Refusal.{Refusal}
@@ -14,11 +14,10 @@ use Rattle.refusal.specs.declared.Refusal.TheVariants.{Rate, Size, Chain, Record
 use Rattle.refusal.proofs.Clear.{clear}
 use Rattle.shape.specs.Shape.{shape, is_rate, is_count}
 use Rattle.chain.specs.Chain.{is_whole, records_in, chain_of, is_broken, on_chain, padded}
-use Rattle.chain.proofs.Steps.{Whole, whole}
+use Rattle.chain.proofs.Steps.{whole}
 use Rattle.chain.proofs.Records.{Chained, chained, padded-length, padded-below}
 use Rattle.recording.specs.Frames.{is_head, are_frames, rate_in, count_in, frames_in, described_all, Inside}
 use Rattle.recording.specs.Reading.{read_refusal, read_of}
-use Rattle.recording.specs.declared.Recording.{Recording}
 
 both : (a b : Bool) → (a && b) ≡ true → (a ≡ true) × (b ≡ true)
 both true b e = (refl, e)

@@ -57,7 +57,7 @@ module _ (b : List ℕ) (i k : ℕ) (x : Recorded) (q : List ℕ) (e : drop (102
 
   recorded-is : TypedRecorded x → recorded_at b i ≡ by_number x
   unfolding recorded_at
-  recorded-is t = ap recorded_in body ∙ ways.written-is-read x (replicate 205 0 ++ q) t
+  recorded-is t = ap recorded_in body ∙ ways.written_is_read x (replicate 205 0 ++ q) t
 
   kind : get_or b (1024 * i + 2) 0 ≡ get_or (record_bytes x ++ (replicate 205 0 ++ q)) 0 0
   kind =

@@ -31,6 +31,7 @@ both false b e = absurd (false≢true e)
 -- bytes that are zeros
 zero_at : (b : List ℕ) (at n : ℕ) → zeros b at n ≡ true → (j : ℕ) → j < n → get_or b (at + j) 0 ≡ 0
 unfolding zeros
+zero_at b at zero e j h = elim h [ ]
 zero_at b at (suc n) e j h = go (zero_at b at n) (ltb j n) refl
   where
     s : (zeros b at n ≡ true) × (eqb (get_or b (at + n) 0) 0 ≡ true)

@@ -2,7 +2,7 @@ use Prim.Native.Nat.{ℕ, suc, ◌+◌, ◌*◌, ◌≤◌}
 use mathlib.Core.Path.{◌≡◌, sym, ap, ◌∙◌}
 use mathlib.Core.Bool.{true}
 use native.Mathlib.Omega.{arith}
-use borrow.Author.Tests.{not-true, not-false, le-leb, lt-leb}
+use borrow.Author.Tests.{le-leb, lt-leb}
 use lib.ListN.{length}
 use mir.Facts.{to_z-of_z}
 use Rattle.le.specs.Bytes.{with_bytes}
@@ -15,23 +15,15 @@ use Rattle.recording.specs.Frames.{described}
 use Rattle.recorder.specs.Writing.{frame_bytes, has_room, has_pulses, head_rows, append_refusal, appended, append_of}
 use Rattle.recorder.proofs.Laws.{left-refused, left-accepted, Room, room, no_room, no_pulses, by_head}
 use borrow.Author.Rules.{rules}
-use Rattle.recorder.proofs.append_received.Goals.{After-head_rows-refusal, Else-not-has_room, Start}
+use Rattle.recorder.proofs.append_received.Goals.{After-head_rows-refusal, Else-not-has_room}
 use Rattle.recorder.proofs.append_received.Goals as goal
 
--- the frame that is lent
-abbrev lent : Start → Recorded
-lent s = let a = s.args in received a.q a.c a.rows a.lines a.pulses.now
-
 -- there is room
-module _ (c : Else-not-has_room) where
-  has : has_room (length c.args.bytes.now) c.args.frames ≡ true
-  has = sym c.has_room.ensures ∙ not-false c.has_room.result c.if-not-has_room.false
-
-  rooms : Room (length c.args.bytes.now) c.args.frames
-  rooms = room (length c.args.bytes.now) c.args.frames has
+rooms : (c : Else-not-has_room) → Room (length c.args.bytes.now) c.args.frames
+rooms c = room (length c.args.bytes.now) c.args.frames (sym c.has_room.ensures ∙ c.if-not-has_room.false)
 
 module _ (c : After-head_rows-refusal) where
-  refusal_is : let a = c.args in c.head_rows-refusal.result ≡ append_refusal a.rate a.subframes a.bytes.now a.frames (lent c.before.before.before.before.before.before.before)
+  refusal_is : let a = c.args in c.head_rows-refusal.result ≡ append_refusal a.rate a.subframes a.bytes.now a.frames (received a.q a.c a.rows a.lines a.pulses.now)
   unfolding has_pulses described
   refusal_is =
       let a = c.args in
@@ -39,48 +31,48 @@ module _ (c : After-head_rows-refusal) where
       let n = to_z-of_z c.ranges.subframes in
       let d = c.description-rows_5_to_9.ensures ∙ (λ i. first_of (description_rows (shape (r i) (n i)) a.q a.c a.lines)) in
       c.head_rows-refusal.ensures ∙ (λ i. first_or (head_rows (r i) (n i) a.bytes.now) (d i))
-      ∙ sym (by_head a.rate a.subframes a.bytes.now a.frames (lent c.before.before.before.before.before.before.before) (has c.before.before.before.before) (le-leb 320 (length a.pulses.now) c.if-pulses-lt320.false))
+      ∙ sym (by_head a.rate a.subframes a.bytes.now a.frames (received a.q a.c a.rows a.lines a.pulses.now) (sym c.has_room.ensures ∙ c.if-not-has_room.false) (le-leb 320 (length a.pulses.now) c.if-pulses-lt320.false))
 
 pub returns-then-not-has_room : goal.returns-then-not-has_room
 unfolding append_of
 returns-then-not-has_room c =
     let a = c.args in
     let b = a.bytes.now in
-    let e = no_room a.rate a.subframes b a.frames (lent c.before.before.before) (sym c.has_room.ensures ∙ not-true c.has_room.result c.if-not-has_room.true) in
+    let e = no_room a.rate a.subframes b a.frames (received a.q a.c a.rows a.lines a.pulses.now) (sym c.has_room.ensures ∙ c.if-not-has_room.true) in
     (λ i. record { refusal = sym e i; bytes = b })
-    ∙ left-refused (append_refusal a.rate a.subframes b a.frames (lent c.before.before.before)) (appended b a.frames (lent c.before.before.before)) b (λ f. omega (arith, ap refusal_number (sym e) ∙ f))
+    ∙ left-refused (append_refusal a.rate a.subframes b a.frames (received a.q a.c a.rows a.lines a.pulses.now)) (appended b a.frames (received a.q a.c a.rows a.lines a.pulses.now)) b (λ f. omega (arith, ap refusal_number (sym e) ∙ f))
 
 pub returns-then-pulses-lt320 : goal.returns-then-pulses-lt320
 unfolding append_of has_pulses
 returns-then-pulses-lt320 c =
     let a = c.args in
     let b = a.bytes.now in
-    let e = no_pulses a.rate a.subframes b a.frames (lent c.before.before.before.before) (lt-leb 320 (length a.pulses.now) c.if-pulses-lt320.true) in
+    let e = no_pulses a.rate a.subframes b a.frames (received a.q a.c a.rows a.lines a.pulses.now) (lt-leb 320 (length a.pulses.now) c.if-pulses-lt320.true) in
     (λ i. record { refusal = sym e i; bytes = b })
-    ∙ left-refused (append_refusal a.rate a.subframes b a.frames (lent c.before.before.before.before)) (appended b a.frames (lent c.before.before.before.before)) b (λ f. omega (arith, ap refusal_number (sym e) ∙ f))
+    ∙ left-refused (append_refusal a.rate a.subframes b a.frames (received a.q a.c a.rows a.lines a.pulses.now)) (appended b a.frames (received a.q a.c a.rows a.lines a.pulses.now)) b (λ f. omega (arith, ap refusal_number (sym e) ∙ f))
 
 pub head_rows-refusal-requires : goal.head_rows-refusal-requires
-head_rows-refusal-requires c = let r = rooms c.before.before.before in search rules
+head_rows-refusal-requires c = let r = rooms (goal.at.head_rows-refusal-requires c).Else-not-has_room in search rules
 
 pub returns-then-number-ne0 : goal.returns-then-number-ne0
 unfolding append_of
 returns-then-number-ne0 c =
     let a = c.args in
     let b = a.bytes.now in
-    (λ i. record { refusal = refusal_is c.before.before i; bytes = b })
-    ∙ left-refused (append_refusal a.rate a.subframes b a.frames (lent c.before.before.before.before.before.before.before.before.before)) (appended b a.frames (lent c.before.before.before.before.before.before.before.before.before)) b (λ e. c.if-number-ne0.true (c.number.ensures ∙ ap refusal_number (refusal_is c.before.before) ∙ e))
+    (λ i. record { refusal = refusal_is (goal.at.returns-then-number-ne0 c).After-head_rows-refusal i; bytes = b })
+    ∙ left-refused (append_refusal a.rate a.subframes b a.frames (received a.q a.c a.rows a.lines a.pulses.now)) (appended b a.frames (received a.q a.c a.rows a.lines a.pulses.now)) b (λ e. c.if-number-ne0.true (c.number.ensures ∙ ap refusal_number (refusal_is (goal.at.returns-then-number-ne0 c).After-head_rows-refusal) ∙ e))
 
 pub link-requires : goal.link-requires
-link-requires c = has c.before.before.before.before.before.before.before
+link-requires c = sym c.has_room.ensures ∙ c.if-not-has_room.false
 
 pub overflow_add-frames : goal.overflow_add-frames
-overflow_add-frames c = let r = rooms c.before.before.before.before.before.before.before.before.before.before.before in search rules
+overflow_add-frames c = let r = rooms (goal.at.overflow_add-frames c).Else-not-has_room in search rules
 
 pub overflow_mul-frames : goal.overflow_mul-frames
-overflow_mul-frames c = let r = rooms c.before.before.before.before.before.before.before.before.before.before.before in search rules
+overflow_mul-frames c = let r = rooms (goal.at.overflow_mul-frames c).Else-not-has_room in search rules
 
 pub put_frame-requires : goal.put_frame-requires
-put_frame-requires c = let r = rooms c.before.before.before.before.before.before.before.before.before.before.before in search rules
+put_frame-requires c = let r = rooms (goal.at.put_frame-requires c).Else-not-has_room in search rules
 
 pub returns : goal.returns
 unfolding append_of appended
@@ -88,6 +80,6 @@ returns c =
     let a = c.args in
     let b = a.bytes.now in
     let n : 1024 * (a.frames + 1) ≡ 1024 * suc a.frames = omega arith in
-    let w = c.put_frame.ensures ∙ (λ i. with_bytes (c.link.ensures i) (n i) (frame_bytes 0 (lent c.before.before.before.before.before.before.before.before.before.before.before.before.before.before.before.before.before))) in
-    (λ i. record { refusal = refusal_is c.before.before.before.before.before.before.before.before.before.before i; bytes = w i })
-    ∙ left-accepted (append_refusal a.rate a.subframes b a.frames (lent c.before.before.before.before.before.before.before.before.before.before.before.before.before.before.before.before.before)) (appended b a.frames (lent c.before.before.before.before.before.before.before.before.before.before.before.before.before.before.before.before.before)) b (sym (c.number.ensures ∙ ap refusal_number (refusal_is c.before.before.before.before.before.before.before.before.before.before)) ∙ c.if-number-ne0.false)
+    let w = c.put_frame.ensures ∙ (λ i. with_bytes (c.link.ensures i) (n i) (frame_bytes 0 (received a.q a.c a.rows a.lines a.pulses.now))) in
+    (λ i. record { refusal = refusal_is (goal.at.returns c).After-head_rows-refusal i; bytes = w i })
+    ∙ left-accepted (append_refusal a.rate a.subframes b a.frames (received a.q a.c a.rows a.lines a.pulses.now)) (appended b a.frames (received a.q a.c a.rows a.lines a.pulses.now)) b (sym (c.number.ensures ∙ ap refusal_number (refusal_is (goal.at.returns c).After-head_rows-refusal)) ∙ c.if-number-ne0.false)

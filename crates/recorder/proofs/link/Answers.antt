@@ -6,28 +6,24 @@ use lib.ListN.{length}
 use Rattle.le.specs.Bytes.{with_bytes}
 use Rattle.recorder.proofs.Laws.{Room, room}
 use borrow.Author.Rules.{rules}
-use Rattle.recorder.proofs.link.Goals.{Start}
 use Rattle.recorder.proofs.link.Goals as goal
 
-has : (c : Start) → Room (length c.args.bytes.now) c.args.n
-has c = room (length c.args.bytes.now) c.args.n c.requires
-
 pub overflow_add-next : goal.overflow_add-next
-overflow_add-next c = let r = has c.before in search rules
+overflow_add-next c = let r = room (length c.args.bytes.now) c.args.n c.requires in search rules
 
 pub overflow_cast-next : goal.overflow_cast-next
-overflow_cast-next c = let r = has c.before in search rules
+overflow_cast-next c = let r = room (length c.args.bytes.now) c.args.n c.requires in search rules
 
 pub overflow_mul-n : goal.overflow_mul-n
-overflow_mul-n c = let r = has c.before.before in search rules
+overflow_mul-n c = let r = room (length c.args.bytes.now) c.args.n c.requires in search rules
 
 pub put_bytes-requires : goal.put_bytes-requires
-put_bytes-requires c = let r = has c.before.before.before in search rules
+put_bytes-requires c = let r = room (length c.args.bytes.now) c.args.n c.requires in search rules
 
 pub returns : goal.returns
 returns c =
     let a = c.args in
-    let r = has c.before.before.before.before.before.before in
+    let r = room (length a.bytes.now) a.n c.requires in
     let low : a.n + 1 ≡ suc a.n % 256 = omega (arith, r.few) in
     let high : 0 ≡ suc a.n / 256 % 256 = omega (arith, r.few) in
     c.put_bytes.ensures ∙ λ i. with_bytes a.bytes.now (1024 * a.n) (low i ∷ high i ∷ [])

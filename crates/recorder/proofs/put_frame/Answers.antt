@@ -8,17 +8,13 @@ use Rattle.le.specs.Bytes.{with_bytes}
 use Rattle.record.specs.Recorded.{received, record_bytes}
 use Rattle.recorder.proofs.Laws.{first_pulses, put_record}
 use borrow.Author.Rules.{rules}
-use Rattle.recorder.proofs.put_frame.Goals.{Start}
 use Rattle.recorder.proofs.put_frame.Goals as goal
 
-pulses_320 : (c : Start) → length (take 320 c.args.pulses.now) ≡ 320
-pulses_320 c = length-take-le 320 c.args.pulses.now c.requires.1
-
 pub slice_bounds-put_received-end : goal.slice_bounds-put_received-end
-slice_bounds-put_received-end c = sym (pulses_320 c.before.before.before.before.before.before.before)
+slice_bounds-put_received-end c = sym (length-take-le 320 c.args.pulses.now c.requires.1)
 
 pub put_received-requires : goal.put_received-requires
-put_received-requires c = (search rules, pulses_320 c.before.before.before.before.before.before.before)
+put_received-requires c = (search rules, length-take-le 320 c.args.pulses.now c.requires.1)
 
 pub returns : goal.returns
 returns c =

@@ -1,9 +1,7 @@
-use Prim.Native.Nat.{ℕ, ◌+◌, ◌*◌, ◌≤◌, ◌-◌}
-use mathlib.Core.Path.{◌≡◌}
+use Prim.Native.Nat.{◌-◌}
 use native.Mathlib.Nat.{le_antisymm}
-use lib.ListN.{length}
 use Rattle.recording.specs.Frames.{are_frames}
-use Rattle.recording.proofs.Back.{last, last_none, last_more, last_all}
+use Rattle.recording.proofs.Back.{last_none, last_more, last_all}
 use borrow.Author.Rules.{rules}
 use Rattle.recording.proofs.are_frames.Goals as goal
 

@@ -1,6 +1,5 @@
 use mir.Facts.{to_z-of_z}
 use Rattle.refusal.specs.First.{first_or}
-use borrow.Author.Rules.{rules}
 use Rattle.recording.proofs.content.Goals as goal
 
 pub returns : goal.returns

@@ -4,7 +4,6 @@ use mir.Facts.{to_z-of_z}
 use lib.ListN.{length-drop}
 use Rattle.recording.specs.Frames.{recorded_at}
 use Rattle.recording.proofs.Back.{rest}
-use borrow.Author.Rules.{rules}
 use Rattle.recording.proofs.described.Goals as goal
 
 pub described_in-requires : goal.described_in-requires

@@ -1,15 +1,9 @@
-use Prim.Native.Nat.{ℕ, ◌+◌, ◌*◌, ◌≤◌, ◌-◌}
-use mathlib.Core.Path.{◌≡◌, refl, sym, ap, ◌∙◌}
-use mathlib.Core.List.{List, map}
-use native.Mathlib.Omega.{arith}
+use Prim.Native.Nat.{◌+◌, ◌*◌, ◌≤◌, ◌-◌}
 use native.Mathlib.Nat.{le_antisymm}
-use lib.ListN.{get_or, length}
-use mir.Syntax.{w32}
-use mir.Val.{to_z}
+use lib.ListN.{length}
 use mir.Facts.{to_z-of_z}
-use Rattle.shape.specs.Shape.{shape}
-use Rattle.recording.specs.Frames.{recorded_at, described, described_all}
-use Rattle.recording.proofs.Back.{last, last_none, last_more, last_all}
+use Rattle.recording.specs.Frames.{described_all}
+use Rattle.recording.proofs.Back.{last_none, last_more, last_all}
 use borrow.Author.Rules.{rules}
 use Rattle.recording.proofs.described_all.Goals.{After-wide8-i}
 use Rattle.recording.proofs.described_all.Goals as goal

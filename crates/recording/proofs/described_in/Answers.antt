@@ -1,9 +1,7 @@
-use mathlib.Core.Path.{◌∙◌, sym}
 use borrow.Author.Tests.{eq-eqb, ne_eqb}
 use mir.Facts.{to_z-of_z}
 use Rattle.record.specs.Recorded.{recorded_in}
 use Rattle.recording.specs.Frames.{described}
-use borrow.Author.Rules.{rules}
 use Rattle.recording.proofs.described_in.Goals as goal
 
 pub returns-then-b-ne1 : goal.returns-then-b-ne1

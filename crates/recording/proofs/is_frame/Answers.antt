@@ -1,6 +1,5 @@
 use borrow.Author.Tests.{eq-eqb, ne_eqb}
 use Rattle.recording.specs.Frames.{is_frame}
-use borrow.Author.Rules.{rules}
 use Rattle.recording.proofs.is_frame.Goals as goal
 
 pub returns-then-bytes-at-eq1 : goal.returns-then-bytes-at-eq1

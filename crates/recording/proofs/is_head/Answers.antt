@@ -1,5 +1,4 @@
 use Rattle.recording.specs.Frames.{is_head}
-use borrow.Author.Rules.{rules}
 use Rattle.recording.proofs.is_head.Goals as goal
 
 pub returns : goal.returns

@@ -1,20 +1,17 @@
 use mathlib.Core.Path.{◌≡◌, sym, ap, ◌∙◌}
-use mathlib.Core.Bool.{true, false}
-use mathlib.Core.List.{List, map}
+use mathlib.Core.List.{List}
 use Prim.Native.Nat.{ℕ, ◌≤◌}
 use mir.Syntax.{w32}
 use mir.Val.{to_z, of_z}
 use Rattle.word.proofs.Words.{kept}
 use native.Mathlib.Omega.{arith}
-use lib.IntN.{ℤ, pos}
 use lib.ListN.{length, take}
-use Rattle.refusal.specs.Refusals.{refusal_number}
 use Rattle.refusal.specs.declared.Refusal.TheVariants.{Chain, Record}
 use Rattle.chain.specs.declared.Order.{Order}
-use Rattle.chain.specs.Chain.{is_whole, order_of, chain_of, is_broken, on_chain, padded}
+use Rattle.chain.specs.Chain.{order_of, chain_of, is_broken, on_chain, padded}
 use Rattle.chain.proofs.Records.{padded-front}
-use Rattle.recording.specs.Frames.{rate_in, count_in, frames_in, recorded_at}
-use Rattle.recording.specs.Reading.{read_refusal, read_of}
+use Rattle.recording.specs.Frames.{rate_in, count_in, frames_in}
+use Rattle.recording.specs.Reading.{read_refusal}
 use Rattle.recording.proofs.Answers.{not_whole, is_broken_lem, by_content, read-refused, read-accepted, enough, padded_60, few-frames, inside}
 use borrow.Author.Rules.{rules}
 use Rattle.recording.proofs.read.Goals.{After-content-refusal}
