@@ -19,8 +19,8 @@ module _ (c : After-frame_length-n) where
   fits = omega (arith, n-is, frame_le c.args.khz c.args.nb_subfr, c.requires)
 
 pub slice_bounds-any_beyond-end : goal.slice_bounds-any_beyond-end
-slice_bounds-any_beyond-end c = sym (length-take-le c.frame_length-n.result c.args.xq.now (fits c.before))
+slice_bounds-any_beyond-end c = sym (length-take-le c.frame_length-n.result c.args.xq.now (fits c))
 
 pub returns : goal.returns
 returns c =
-    rw (c.any_beyond.ensures, to_z-of_z c.ranges.limit, n-is c.before.before)
+    rw (c.any_beyond.ensures, to_z-of_z c.ranges.limit, n-is c.before)
