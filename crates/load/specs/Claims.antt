@@ -1,7 +1,6 @@
 -- Document 02, Note 11: "a stream of valid descriptions".
-use Rattle.std.specs.Prelude.{ℕ, ◌≡◌, ℤ}
-use Rattle.std.specs.Int.{w8, w16}
-use Rattle.std.proofs.Common.{SFits}
+use Rattle.std.specs.Prelude.{◌≡◌, ℤ}
+use Rattle.std.specs.Int.{w16}
 use Rattle.refusal.specs.First.{first_of}
 use Rattle.refusal.specs.declared.Refusal.TheVariants.{Nothing}
 use Rattle.shape.specs.Shape.{shape, rate_of}

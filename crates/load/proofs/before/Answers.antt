@@ -6,7 +6,6 @@ use mir.Facts.{to_z-of_z}
 use Rattle.word.proofs.Words.{got}
 use Rattle.generator.specs.Draws.{drawn}
 use Rattle.load.specs.Load.{before}
-use borrow.Author.Rules.{rules}
 use Rattle.load.proofs.before.Goals as goal
 
 pub returns : goal.returns

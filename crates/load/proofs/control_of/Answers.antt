@@ -10,7 +10,6 @@ use Rattle.shape.specs.Shape.{rate_of}
 use Rattle.shape.proofs.Shapes.{rate_le}
 use Rattle.generator.specs.Scaled.{pick, picks}
 use Rattle.load.specs.Load.{control_of}
-use borrow.Author.Rules.{rules}
 use Rattle.load.proofs.control_of.Goals.{After-lag_min}
 use Rattle.load.proofs.control_of.Goals as goal
 

@@ -1,5 +1,4 @@
 use Rattle.load.proofs.Valid.{drawn_valid, drawn_typed}
-use borrow.Author.Rules.{rules}
 use Rattle.load.proofs.drawn_valid.Goals as goal
 
 pub returns : goal.returns

@@ -1,6 +1,5 @@
 use mir.Facts.{to_z-of_z}
 use Rattle.load.specs.Load.{frame_of}
-use borrow.Author.Rules.{rules}
 use Rattle.load.proofs.frame_of.Goals as goal
 
 pub returns-then-is_received : goal.returns-then-is_received

@@ -7,7 +7,6 @@ use Rattle.word.specs.Int.{eq_ℤ}
 use Rattle.word.proofs.Words.{eq_words}
 use Rattle.generator.specs.Scaled.{pick}
 use Rattle.load.specs.Load.{is_received}
-use borrow.Author.Rules.{rules}
 use Rattle.load.proofs.is_received.Goals as goal
 
 pub returns : goal.returns

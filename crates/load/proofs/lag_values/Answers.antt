@@ -2,7 +2,6 @@ use Prim.Native.Nat.{◌≤◌}
 use native.Mathlib.Omega.{arith}
 use mir.Facts.{to_z-of_z}
 use Rattle.shape.proofs.Shapes.{rate_le}
-use borrow.Author.Rules.{rules}
 use Rattle.load.proofs.lag_values.Goals.{After-rate_of}
 use Rattle.load.proofs.lag_values.Goals as goal
 

@@ -3,7 +3,6 @@ use lib.IntN.{ℤ, pos}
 use mir.Facts.{to_z-of_z}
 use Rattle.generator.specs.Scaled.{picks}
 use Rattle.load.specs.Load.{lines_of}
-use borrow.Author.Rules.{rules}
 use Rattle.load.proofs.lines_of.Goals as goal
 
 pub returns : goal.returns

@@ -1,7 +1,6 @@
 use mir.Facts.{to_z-of_z}
 use Rattle.refusal.specs.First.{first_or}
 use Rattle.load.specs.Load.{load_refusal}
-use borrow.Author.Rules.{rules}
 use Rattle.load.proofs.load_refusal.Goals as goal
 
 pub returns : goal.returns

@@ -6,7 +6,6 @@ use Rattle.word.proofs.Words.{got}
 use Rattle.decoder.specs.Signals.{signal_of}
 use Rattle.generator.specs.Scaled.{pick}
 use Rattle.load.specs.Load.{params_of}
-use borrow.Author.Rules.{rules}
 use Rattle.load.proofs.params_of.Goals as goal
 
 pub returns : goal.returns

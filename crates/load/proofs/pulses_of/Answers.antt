@@ -1,7 +1,6 @@
 use mathlib.Core.Path.{◌∙◌}
 use mir.Facts.{to_z-of_z}
 use Rattle.load.specs.Load.{pulses_of}
-use borrow.Author.Rules.{rules}
 use Rattle.load.proofs.pulses_of.Goals as goal
 
 pub returns : goal.returns

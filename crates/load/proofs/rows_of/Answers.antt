@@ -4,7 +4,6 @@ use lib.IntN.{negsuc}
 use mir.Facts.{to_z-of_z}
 use Rattle.generator.specs.Scaled.{picks}
 use Rattle.load.specs.Load.{rows_of}
-use borrow.Author.Rules.{rules}
 use Rattle.load.proofs.rows_of.Goals as goal
 
 pub returns : goal.returns

@@ -1,7 +1,6 @@
 use mathlib.Core.Path.{◌∙◌}
 use mir.Facts.{to_z-of_z}
 use Rattle.generator.specs.Scaled.{picks}
-use borrow.Author.Rules.{rules}
 use Rattle.load.proofs.sixteen.Goals as goal
 
 pub returns : goal.returns

@@ -2,7 +2,6 @@ use mathlib.Core.Path.{ap, ◌∙◌}
 use lib.IntN.{ℤ, negsuc}
 use mir.Facts.{to_z-of_z}
 use Rattle.generator.specs.Scaled.{picks}
-use borrow.Author.Rules.{rules}
 use Rattle.load.proofs.taps_of.Goals as goal
 
 pub returns : goal.returns
