@@ -60,7 +60,7 @@ loop-k-init c =
 
 pub returns-then-is_culprit : goal.returns-then-is_culprit
 returns-then-is_culprit c =
-    let b = c.before in
+    let b = (goal.at.returns-then-is_culprit c).After-is_culprit in
     sym (c.loop-k.invariant.2 ∙ first_here (is_culprit (L b) (K b) (N b) c.args.s (all b)) c.loop-k.k c.args.n (search rules) (test b ∙ c.if-is_culprit.true))
     ∙ asked _ _ _ _ _ _ (to_z-of_z c.ranges.limit) (to_z-of_z c.ranges.khz) (to_z-of_z c.ranges.nb_subfr) c.args.s (all b) c.args.n
 
@@ -71,7 +71,7 @@ heard_at-h-requires c =
 pub loop-k-preserved : goal.loop-k-preserved
 unfolding heard_of
 loop-k-preserved c =
-    let b = c.before.before.before.before.before in
+    let b = (goal.at.loop-k-preserved c).After-is_culprit in
     let g = c.loop-k.invariant.1 in
     let i = c.wide8.ensures.0 in (
       search rules,

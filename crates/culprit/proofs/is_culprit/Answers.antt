@@ -20,7 +20,7 @@ was_received-requires c =
 
 pub returns-then-was_received : goal.returns-then-was_received
 returns-then-was_received c =
-    rw (and_true _ _ (kind c.before.before ∙ c.if-was_received.true), c.lost_passes.ensures, to_z-of_z c.ranges.limit, to_z-of_z c.ranges.khz, to_z-of_z c.ranges.nb_subfr)
+    rw (and_true _ _ (kind (goal.at.returns-then-was_received c).After-was_received ∙ c.if-was_received.true), c.lost_passes.ensures, to_z-of_z c.ranges.limit, to_z-of_z c.ranges.khz, to_z-of_z c.ranges.nb_subfr)
 
 pub returns : goal.returns
-returns c = sym (and_false _ _ (kind c.before ∙ c.if-was_received.false))
+returns c = sym (and_false _ _ (kind (goal.at.returns c).After-was_received ∙ c.if-was_received.false))

@@ -37,8 +37,8 @@ module _ (c : After-lost_heard-h) where
       sym (λ i. passes (l i) (h i) (m i) c.args.s (lost ∷ behind)) ∙ heard-step L K N c.args.s lost behind c.lost_heard-h.result c.lost_heard-h.ensures
 
 pub returns-then-h : goal.returns-then-h
-returns-then-h c = sym (turn c.before.before ∙ or_true c.lost_heard-h.result.loud _ c.if-h.true)
+returns-then-h c = sym (turn (goal.at.returns-then-h c).After-lost_heard-h ∙ or_true c.lost_heard-h.result.loud _ c.if-h.true)
 
 pub returns : goal.returns
 returns c =
-    c.passes.ensures ∙ sym (turn c.before.before.before ∙ or_false c.lost_heard-h.result.loud _ c.if-h.false)
+    c.passes.ensures ∙ sym (turn (goal.at.returns c).After-lost_heard-h ∙ or_false c.lost_heard-h.result.loud _ c.if-h.false)

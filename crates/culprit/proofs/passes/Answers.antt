@@ -51,12 +51,12 @@ returns-then-h c =
     let l = to_z-of_z c.ranges.limit in
     let h = to_z-of_z c.ranges.khz in
     let m = to_z-of_z c.ranges.nb_subfr in
-    sym (turn c.before.before ∙ or_true c.heard_at-h.result.loud _ c.if-h.true)
+    sym (turn (goal.at.returns-then-h c).After-heard_at-h ∙ or_true c.heard_at-h.result.loud _ c.if-h.true)
     ∙ λ i. passes (l i) (h i) (m i) c.args.s (map (recorded_at c.args.bytes.now) (drop c.args.from (take c.args.n c.args.records.now)))
 
 pub loop-k-preserved : goal.loop-k-preserved
 loop-k-preserved c =
-    (search rules, turn c.before.before ∙ or_false c.heard_at-h.result.loud _ c.if-h.false)
+    (search rules, turn (goal.at.loop-k-preserved c).After-heard_at-h ∙ or_false c.heard_at-h.result.loud _ c.if-h.false)
 
 pub returns : goal.returns
 returns c =

@@ -14,10 +14,10 @@ samples_320 : (c : After-sound_at-t) → length c.sound_at-t.result.samples ≡ 
 samples_320 c = search rules
 
 pub slice_bounds-is_loud-end : goal.slice_bounds-is_loud-end
-slice_bounds-is_loud-end c = sym (samples_320 c.before.before.before)
+slice_bounds-is_loud-end c = sym (samples_320 (goal.at.slice_bounds-is_loud-end c).After-sound_at-t)
 
 pub is_loud-loud-requires : goal.is_loud-loud-requires
-is_loud-loud-requires c = let h = samples_320 c.before.before.before in search rules
+is_loud-loud-requires c = let h = samples_320 (goal.at.is_loud-loud-requires c).After-sound_at-t in search rules
 
 pub returns : goal.returns
 returns c =

@@ -13,10 +13,10 @@ samples_320 : (c : After-lost_sound-t) → length c.lost_sound-t.result.samples 
 samples_320 c = search rules
 
 pub slice_bounds-is_loud-end : goal.slice_bounds-is_loud-end
-slice_bounds-is_loud-end c = sym (samples_320 c.before.before.before)
+slice_bounds-is_loud-end c = sym (samples_320 (goal.at.slice_bounds-is_loud-end c).After-lost_sound-t)
 
 pub is_loud-loud-requires : goal.is_loud-loud-requires
-is_loud-loud-requires c = let h = samples_320 c.before.before.before in search rules
+is_loud-loud-requires c = let h = samples_320 (goal.at.is_loud-loud-requires c).After-lost_sound-t in search rules
 
 pub returns : goal.returns
 unfolding heard_of call_of

@@ -20,7 +20,7 @@ use Rattle.culprit.specs.Search.{passes, is_culprit, first_from}
 use Rattle.single_loss.specs.declared.Answer.TheVariants.{Refused, Found}
 use Rattle.single_loss.proofs.Answers.{refusal_is, not_read, rate_is, count_is, records_60, frames-few, records_inside, frames-is, frames_count, out_of_range, already, searched}
 use borrow.Author.Rules.{rules}
-use Rattle.single_loss.proofs.single_loss.Goals.{After-passes, After-post_for-s}
+use Rattle.single_loss.proofs.single_loss.Goals.{After-post_for-s}
 use Rattle.single_loss.proofs.single_loss.Goals as goal
 
 -- what is read, and is not refused
@@ -73,13 +73,12 @@ module _ (c : After-post_for-s) where
   in_range : within (pos 1) (pos 32767) c.args.limit ≡ true
   in_range = range_is _ c.args.limit c.within.result c.within.ensures (to_z-of_z c.ranges.limit) ∙ not-false c.within.result c.if-not-within.false
 
--- the call as recorded
-as_recorded : (c : After-passes) → let b = c.args.bytes.now in
-    passes c.args.limit (rate_in b) (count_in b) (start_of b) (frames_in b) ≡ c.passes.result
-as_recorded c =
-    let l = to_z-of_z c.ranges.limit in
-    let p = c.before.before in
-    sym (c.passes.ensures ∙ λ i. passes (l i) (rate-back p i) (count-back p i) (start_is p i) (frames-back p i))
+  -- the call as recorded
+  as_recorded : (t : Bool) → t ≡ passes (to_z w32 (of_z w32 c.args.limit)) (to_z w32 (of_z w32 r.rate)) (to_z w32 (of_z w32 r.subframes)) c.post_for-s.result (map (recorded_at b) (take r.frames r.records))
+      → passes c.args.limit (rate_in b) (count_in b) (start_of b) (frames_in b) ≡ t
+  as_recorded t e =
+      let l = to_z-of_z c.ranges.limit in
+      sym (e ∙ λ i. passes (l i) (rate-back i) (count-back i) (start_is i) (frames-back i))
 
 pub returns-then-number-ne0 : goal.returns-then-number-ne0
 returns-then-number-ne0 c =
@@ -94,27 +93,27 @@ returns-then-not-within c =
     (range_is _ c.args.limit c.within.result c.within.ensures (to_z-of_z c.ranges.limit) ∙ not-true c.within.result c.if-not-within.true)
 
 pub slice_bounds-passes-end : goal.slice_bounds-passes-end
-slice_bounds-passes-end c = sym (sixty c.before)
+slice_bounds-passes-end c = sym (sixty (goal.at.slice_bounds-passes-end c).After-post_for-s)
 
 pub passes-requires : goal.passes-requires
-passes-requires c = (search rules, few c.before, lies c.before)
+passes-requires c = let p = (goal.at.passes-requires c).After-post_for-s in (search rules, few p, lies p)
 
 pub returns-then-passes : goal.returns-then-passes
 returns-then-passes c =
-    let p = c.before.before.before in
-    already c.args.bytes.now (read-well p) c.args.limit (in_range p) (as_recorded c.before ∙ c.if-passes.true)
+    let p = (goal.at.returns-then-passes c).After-post_for-s in
+    already c.args.bytes.now (read-well p) c.args.limit (in_range p) (as_recorded p c.passes.result c.passes.ensures ∙ c.if-passes.true)
 
 pub slice_bounds-first_culprit-end : goal.slice_bounds-first_culprit-end
-slice_bounds-first_culprit-end c = sym (sixty c.before.before.before.before)
+slice_bounds-first_culprit-end c = sym (sixty (goal.at.slice_bounds-first_culprit-end c).After-post_for-s)
 
 pub first_culprit-culprit-requires : goal.first_culprit-culprit-requires
 first_culprit-culprit-requires c =
-    let p = c.before.before.before.before in
+    let p = (goal.at.first_culprit-culprit-requires c).After-post_for-s in
     (few p, lies p, sym c.passes.ensures ∙ c.if-passes.false)
 
 pub returns : goal.returns
 returns c =
-    let p = c.before.before.before.before.before in
+    let p = (goal.at.returns c).After-post_for-s in
     let l = to_z-of_z c.ranges.limit in
     ap Found (c.first_culprit-culprit.ensures ∙ λ i. first_from (is_culprit (l i) (rate-back p i) (count-back p i) (start_is p i) (frames-back p i)) 0 (many p i))
-    ∙ searched c.args.bytes.now (read-well p) c.args.limit (in_range p) (as_recorded c.before.before.before ∙ c.if-passes.false)
+    ∙ searched c.args.bytes.now (read-well p) c.args.limit (in_range p) (as_recorded p c.passes.result c.passes.ensures ∙ c.if-passes.false)
