@@ -8,7 +8,7 @@ use lib.ListN.{take, replicate}
 use Rattle.word.specs.Int.{eq_ℤ}
 use Rattle.word.specs.Size.{size_at}
 use Rattle.word.proofs.Order.{eq_ℤ_true}
-use Rattle.shape.specs.Shape.{Shape, shape, rate_of, count_of, mem_length, lpc_order}
+use Rattle.shape.specs.Shape.{shape, rate_of, count_of, mem_length, lpc_order}
 use Rattle.shape.proofs.Shapes.{Shaped}
 use Rattle.decoder.specs.State.{shape_of}
 use Rattle.decoder.specs.declared.SilkPLCState.{SilkPLCState}
