@@ -27,9 +27,9 @@ unfolding below apart_to
 loop-k-preserved c =
     let x = get_or c.args.nlsf.now c.loop-k.k (pos 0) in (
       search rules,
-      rw (line c.before) (fits-abs {c.before = w16} x (record { sfits = c.wide16-arg-1.given })),
-      rw (add-one) (line c.before),
-      rw (add-one, c.apart-ok.ensures, line c.before, c.loop-k.invariant.2, c.loop-k.invariant.3),
+      rw (line (goal.at.loop-k-preserved c).After-wide16-line) (fits-abs {w = w16} x (record { sfits = c.wide16-arg-1.given })),
+      rw (add-one) (line (goal.at.loop-k-preserved c).After-wide16-line),
+      rw (add-one, c.apart-ok.ensures, line (goal.at.loop-k-preserved c).After-wide16-line, c.loop-k.invariant.2, c.loop-k.invariant.3),
     )
 
 pub returns : goal.returns

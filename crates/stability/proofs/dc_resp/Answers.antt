@@ -1,13 +1,11 @@
-use Prim.Native.Nat.{◌-◌, ◌*◌, ◌≤◌}
-use mathlib.Core.Path.{◌≡◌, refl}
+use mathlib.Core.Path.{refl}
 use native.Mathlib.Nat.{le_antisymm}
 use native.Mathlib.Numerals.{add-one}
 use native.Mathlib.Omega.{arith}
 use borrow.Author.Rules.{rules}
-use lib.IntN.{pos, nat_abs}
+use lib.IntN.{pos}
 use lib.ListN.{get_or}
 use mir.Syntax.{w16, w32}
-use mir.Val.{to_z}
 use Rattle.word.proofs.Words.{kept}
 use Rattle.stability.specs.Stability.{total}
 use Rattle.stability.proofs.Sums.{total-more, total_kept}

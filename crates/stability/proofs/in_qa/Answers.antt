@@ -1,12 +1,11 @@
-use Prim.Native.Nat.{◌-◌, ◌≤◌, ◌^◌}
-use mathlib.Core.Path.{◌≡◌, refl}
-use mathlib.Core.List.{◌++◌, map}
+use Prim.Native.Nat.{◌^◌}
+use mathlib.Core.Path.{refl}
 use native.Mathlib.Nat.{le_antisymm}
 use native.Mathlib.Numerals.{add-one}
 use native.Mathlib.Omega.{arith}
 use borrow.Author.Rules.{rules}
 use lib.IntN.{pos, ◌*ℤ◌}
-use lib.ListN.{length, get_or, take, drop}
+use lib.ListN.{get_or}
 use mir.Syntax.{w16, w32}
 use Rattle.word.proofs.Words.{kept}
 use Rattle.stability.proofs.Sums.{take_more, qa_kept}

@@ -1,5 +1,4 @@
 use mathlib.Core.Path.{◌≡◌, sym, ap, ◌∙◌}
-use borrow.Author.Rules.{rules}
 use lib.ListN.{take}
 use mir.Syntax.{w32}
 use mir.Facts.{to_z-of_z}

@@ -1,6 +1,5 @@
 use mathlib.Core.Path.{◌≡◌, refl}
 use mathlib.Core.Bool.{Bool, false}
-use borrow.Author.Rules.{rules}
 use lib.Dec.{ltb}
 use lib.IntN.{pos, negsuc, nat_abs}
 use lib.Signed.{lt_z}

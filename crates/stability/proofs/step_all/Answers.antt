@@ -1,21 +1,20 @@
-use Prim.Native.Nat.{ℕ, ◌+◌, ◌-◌, ◌/◌, ◌<◌, ◌≤◌}
+use Prim.Native.Nat.{ℕ, ◌+◌, ◌-◌, ◌<◌}
 use mathlib.Core.Path.{◌≡◌, refl, sym, ◌∙◌}
 use mathlib.Core.Bool.{and_assoc}
-use mathlib.Core.List.{List}
 use native.Mathlib.Nat.{le_antisymm}
 use native.Mathlib.Numerals.{add-one}
 use native.Mathlib.Omega.{arith}
 use borrow.Author.Rules.{rules}
 use lib.IntN.{ℤ, pos}
-use lib.ListN.{length, get_or, length-set}
+use lib.ListN.{get_or, length-set}
 use mir.Syntax.{w32, w64}
 use mir.Val.{to_z, of_z}
 use mir.Facts.{to_z-of_z}
 use Rattle.word.specs.Int.{wrap32}
 use Rattle.word.proofs.Words.{kept, got}
-use Rattle.stability.specs.Stability.{step_down, stepped, fits32}
+use Rattle.stability.specs.Stability.{stepped, fits32}
 use Rattle.stability.proofs.Steps.{map-tabulate}
-use Rattle.stability.proofs.Ends.{Turned, turned_none, turned_left, turned_right, turned_more, turned_all, every, pair, pairs_all}
+use Rattle.stability.proofs.Ends.{turned_none, turned_left, turned_right, turned_more, turned_all, every, pair, pairs_all}
 use Rattle.stability.proofs.step_all.Invariants.{down}
 use Rattle.stability.proofs.step_all.Goals as goal
 
