@@ -4,10 +4,10 @@
 ghost use Rattle.std.specs.Prelude.{◌≤◌};
 
 use coefficients::{Entry, blank, ended, fed};
-use libc::{STDIN_FILENO, STDOUT_FILENO};
 use refusal::number;
 use sentence::sentence_of;
 use stability::silk_lpc_inverse_pred_gain_under;
+use std::io::{self, Read, Write};
 use word::wide16;
 
 fn at_most_64(n: usize) -> usize
@@ -16,11 +16,10 @@ fn at_most_64(n: usize) -> usize
     if n < 64 { n } else { 64 }
 }
 
-fn bad_line() {
-    io::write_all(
-        STDOUT_FILENO,
+fn bad_line(out: &mut impl Write) -> io::Result<()> {
+    out.write_all(
         b"bad line: it is to have an edition, 6716 or 8251, and one to sixteen whole numbers of sixteen bits\n",
-    );
+    )
 }
 
 // The coefficients of a line of so many numbers: all but the edition.
@@ -29,7 +28,7 @@ fn all_but_one(count: usize) -> usize {
 }
 
 // The sentence of a whole line, or a message.
-fn tell(e: Entry) {
+fn tell(out: &mut impl Write, e: Entry) -> io::Result<()> {
     let last = ended(e);
     let a = last.a;
     let edition = wide16(a[0]);
@@ -38,14 +37,13 @@ fn tell(e: Entry) {
     let refusal = t.refusal;
     let answer = t.answer;
     if last.bad | (number(refusal) != 0) {
-        bad_line();
-        return;
+        return bad_line(out);
     }
     let s = sentence_of(answer);
     let letters = s.letters;
     let n = at_most_64(s.len);
-    io::write_all(STDOUT_FILENO, &letters[..n]);
-    io::write_all(STDOUT_FILENO, b"\n");
+    out.write_all(&letters[..n])?;
+    out.write_all(b"\n")
 }
 
 // The line that is being read, and whether a byte of it was.
@@ -60,42 +58,42 @@ fn started() -> Reading {
     Reading { line, begun: false }
 }
 
-fn read_on(r: Reading, b: u8) -> Reading {
+fn read_on(out: &mut impl Write, r: Reading, b: u8) -> io::Result<Reading> {
     let line = r.line;
     if b == b'\n' {
-        tell(line);
-        return started();
+        tell(out, line)?;
+        return Ok(started());
     }
     let next = fed(line, b);
-    Reading {
+    Ok(Reading {
         line: next,
         begun: true,
-    }
+    })
 }
 
-fn read_all(r: Reading, text: &[u8]) -> Reading {
+fn read_all(out: &mut impl Write, r: Reading, text: &[u8]) -> io::Result<Reading> {
     let mut new = r;
-    for i in 0..text.len() {
-        new = read_on(new, text[i]);
+    for b in text {
+        new = read_on(out, new, *b)?;
     }
-    new
+    Ok(new)
 }
 
-fn main() {
-    let mut text = io::buffer();
+fn main(rt: HostRuntime) -> io::Result<()> {
+    let mut input = rt.stdin();
+    let mut out = rt.stdout();
+    let mut text = [0u8; 4096];
     let mut r = started();
     // At most 1,000,000 parts of up to 4,096 bytes are read.
-    let parts: usize = 1000000;
-    for i in 0..parts {
-        let got = libc::read(STDIN_FILENO, &mut text);
-        let n = io::count(got, &text);
+    for _ in 0..1000000u32 {
+        let n = input.read(&mut text)?;
         if n == 0 {
             break;
         }
-        r = read_all(r, &text[..n]);
+        r = read_all(&mut out, r, &text[..n])?;
     }
-    let line = r.line;
     if r.begun {
-        tell(line);
+        tell(&mut out, r.line)?;
     }
+    Ok(())
 }
