@@ -5,10 +5,10 @@ ghost use Rattle.std.specs.Prelude.{◌≡◌, pos, replicate};
 
 use checksum::{sum16, sum32};
 use decoder::signal_number;
-use libc::{STDIN_FILENO, STDOUT_FILENO};
 use line::{Line, blank, fed};
 use load::{before, control_of, is_received, lines_of, params_of, pulses_of, rows_of};
 use post_load::{post_load_frame, post_load_leap, post_load_undoing};
+use std::io::{self, Read};
 use stream::silence;
 use word::{bits32, wide8};
 
@@ -27,13 +27,6 @@ fn coefs() -> [i16; 68]
     ensures { result ≡ replicate 68 (pos 0) }
 {
     [0; 68]
-}
-
-fn say_signed(n: i32) {
-    if n < 0 {
-        io::write_all(STDOUT_FILENO, b"-");
-    }
-    io::print_decimal(STDOUT_FILENO, bits32(word::abs32(n)) as u64);
 }
 
 fn sum_small(x: i32) -> i32 {
@@ -84,7 +77,7 @@ fn sum_drawn(x: i32, rate: i32) -> i32 {
 }
 
 // The answer, the check sum of the frame's numbers, and that of the slices.
-fn frame(seed: i32, rate: i32, subframes: i32, number: u32) {
+fn frame(rt: &impl Print, seed: i32, rate: i32, subframes: i32, number: u32) -> io::Result<()> {
     let mut frame = [0; 16];
     let mut coefs = coefs();
     let mut pulses = silence();
@@ -98,47 +91,40 @@ fn frame(seed: i32, rate: i32, subframes: i32, number: u32) {
         &mut pulses,
     );
     let left = sum16(sum16(sum32(0, &frame), &coefs), &pulses);
-    say_signed(answer);
-    io::write_all(STDOUT_FILENO, b" ");
-    say_signed(sum_drawn(before(seed, number), rate));
-    io::write_all(STDOUT_FILENO, b" ");
-    say_signed(left);
+    let drawn = sum_drawn(before(seed, number), rate);
+    println!(rt; "{answer} {drawn} {left}")
 }
 
 // A line that ends: one with no number is passed over.
-fn answered(l: Line) {
+fn answered(rt: &impl Print, l: Line) -> io::Result<()> {
     let row = l.row;
     if l.count == 0 {
-        return;
+        return Ok(());
     }
     let what = row[0];
     match what {
-        LEAP => say_signed(post_load_leap(row[1], draws(row[2], row[3]))),
-        UNDOING => {
-            io::print_decimal(STDOUT_FILENO, post_load_undoing(draws(row[1], row[2])));
-        }
-        FRAME => frame(row[1], row[2], row[3], bits32(row[4])),
-        _ => {
-            io::write_all(STDOUT_FILENO, b"no case");
-        }
+        LEAP => rt.println(post_load_leap(row[1], draws(row[2], row[3]))),
+        UNDOING => rt.println(post_load_undoing(draws(row[1], row[2]))),
+        FRAME => frame(rt, row[1], row[2], row[3], bits32(row[4])),
+        _ => println!(rt; "no case"),
     }
-    io::write_all(STDOUT_FILENO, b"\n");
 }
 
-fn run(text: &[u8]) {
+fn run(rt: &impl Print, text: &[u8]) -> io::Result<()> {
     let mut l = blank();
-    for i in 0..text.len() {
-        let b = text[i];
-        l = fed(l, b);
-        if b == b'\n' {
-            answered(l);
+    for b in text {
+        l = fed(l, *b);
+        if *b == b'\n' {
+            answered(rt, l)?;
             l = blank();
         }
     }
+    Ok(())
 }
 
-fn main() {
-    let mut text = io::large_buffer();
-    let n = io::read_full(STDIN_FILENO, &mut text);
-    run(&text[..n]);
+// At most 65,536 bytes are read.
+fn main(rt: HostRuntime) -> io::Result<()> {
+    let mut text = Vec::new(rt.alloc());
+    rt.stdin().take(65536).read_to_end(&mut text)?;
+    run(&rt, text.as_slice())
 }

@@ -6,10 +6,10 @@ ghost use Rattle.std.specs.Prelude.{◌≡◌, ◌≤◌, replicate};
 
 use decoder::Frame;
 use le::signed_byte;
-use libc::{STDERR_FILENO, STDIN_FILENO, STDOUT_FILENO};
 use record::{control_in, frame_in, lines_in, pulses_in, rows_in};
 use recorder::{append_lost, append_received, begin};
 use refusal::{Refusal, number};
+use std::io::{self, ErrorKind, Read, Write};
 use stream::{Head, Opened, no_bytes, read_header};
 
 // What became of a record: its frame is recorded or refused; or the file ends within it, or its kind is unknown.
@@ -34,28 +34,39 @@ fn blank() -> [u8; 817]
     [0; 817]
 }
 
-fn read_record(kind: u8, n: usize) -> Record
+// Whether the input had the bytes to fill the buffer; else it ended before.
+fn read_whole(input: &mut impl Read, buffer: &mut [u8]) -> io::Result<bool> {
+    match input.read_exact(buffer) {
+        Ok(()) => Ok(true),
+        Err(e) => {
+            if e.kind() == ErrorKind::UnexpectedEof {
+                Ok(false)
+            } else {
+                Err(e)
+            }
+        }
+    }
+}
+
+fn read_record(input: &mut impl Read, kind: u8, n: usize) -> io::Result<Record>
     requires { n ≤ 640 }
 {
     let mut bytes = blank();
     if kind == 0 {
-        return Record { bytes, whole: true };
+        return Ok(Record { bytes, whole: true });
     }
     let end = 177 + n;
-    let got = io::read_full(STDIN_FILENO, &mut bytes[1..end]);
+    let whole = read_whole(input, &mut bytes[1..end])?;
     bytes[0] = kind;
-    Record {
-        bytes,
-        whole: got == 176 + n,
-    }
+    Ok(Record { bytes, whole })
 }
 
 // The samples that end a record are passed over.
-fn pass_samples(n: usize) -> bool
+fn pass_samples(input: &mut impl Read, n: usize) -> io::Result<bool>
     requires { n ≤ 640 }
 {
     let mut bytes = no_bytes();
-    io::read_full(STDIN_FILENO, &mut bytes[..n]) == n
+    read_whole(input, &mut bytes[..n])
 }
 
 fn add(out: &mut [u8], i: usize, rate: i32, subframes: i32, b: &[u8; 817]) -> Refusal {
@@ -71,88 +82,86 @@ fn add(out: &mut [u8], i: usize, rate: i32, subframes: i32, b: &[u8; 817]) -> Re
 }
 
 // One record, whose frame has the stream's shape and n bytes of samples.
-fn next(out: &mut [u8], i: usize, rate: i32, subframes: i32, n: usize) -> Ended
+fn next(
+    input: &mut impl Read,
+    out: &mut [u8],
+    i: usize,
+    rate: i32,
+    subframes: i32,
+    n: usize,
+) -> io::Result<Ended>
     requires { n ≤ 640 }
 {
     let mut first = [0u8; 1];
-    if io::read_full(STDIN_FILENO, &mut first) != 1 {
-        return Ended::Cut;
+    if !read_whole(input, &mut first)? {
+        return Ok(Ended::Cut);
     }
     let kind = first[0];
     if kind > 1 {
-        return Ended::Kind(kind);
+        return Ok(Ended::Kind(kind));
     }
-    let record = read_record(kind, n);
+    let record = read_record(input, kind, n)?;
     let bytes = record.bytes;
     if !record.whole {
-        return Ended::Cut;
+        return Ok(Ended::Cut);
     }
-    if !pass_samples(n) {
-        return Ended::Cut;
+    if !pass_samples(input, n)? {
+        return Ok(Ended::Cut);
     }
     let refusal = add(out, i, rate, subframes, &bytes);
     if number(refusal) != 0 {
-        return Ended::Refused(refusal);
+        return Ok(Ended::Refused(refusal));
     }
-    Ended::Recorded
+    Ok(Ended::Recorded)
 }
 
-fn say(text: &[u8]) {
-    io::write_all(STDERR_FILENO, text);
-}
-
-fn say_number(n: u64) {
-    io::print_decimal(STDERR_FILENO, n);
-}
-
-fn say_word(r: Refusal) {
+fn say_word(err: &mut impl Write, r: Refusal) -> io::Result<()> {
     let w = refusal::word(r);
     let letters = w.letters;
     let n = w.len;
-    say(&letters[..n]);
+    err.write_all(&letters[..n])
 }
 
 // Says what is to be said of record i, and whether to go on.
-fn report(i: usize, e: Ended) -> bool {
+fn report(err: &mut impl Write, i: usize, e: Ended) -> io::Result<bool> {
     match e {
-        Ended::Recorded => true,
+        Ended::Recorded => Ok(true),
         Ended::Refused(r) => {
-            say(b"frame ");
-            say_number(i as u64);
-            say(b" refused: ");
-            say_number(number(r) as u64);
-            say(b" ");
-            say_word(r);
-            say(b"\n");
-            false
+            let number = number(r);
+            write!(err, "frame {i} refused: {number} ")?;
+            say_word(err, r)?;
+            writeln!(err)?;
+            Ok(false)
         }
         Ended::Cut => {
-            say(b"the file ends within record ");
-            say_number(i as u64);
-            say(b"\n");
-            false
+            writeln!(err, "the file ends within record {i}")?;
+            Ok(false)
         }
         Ended::Kind(kind) => {
-            say(b"record ");
-            say_number(i as u64);
-            say(b" has the kind ");
-            say_number(kind as u64);
-            say(b"; known are 0 (lost) and 1 (received)\n");
-            false
+            writeln!(err, "record {i} has the kind {kind}; known are 0 (lost) and 1 (received)")?;
+            Ok(false)
         }
     }
 }
 
-fn record_frames(out: &mut [u8], rate: i32, subframes: i32, n: usize, frames: usize) -> bool
+fn record_frames(
+    input: &mut impl Read,
+    err: &mut impl Write,
+    out: &mut [u8],
+    rate: i32,
+    subframes: i32,
+    n: usize,
+    frames: usize,
+) -> io::Result<bool>
     requires { n ≤ 640 }
 {
     for i in 0..frames {
-        let e = next(out, i, rate, subframes, n);
-        if !report(i, e) {
-            return false;
+        let e = next(input, out, i, rate, subframes, n)?;
+        if !report(err, i, e)? {
+            return Ok(false);
         }
     }
-    true
+    Ok(true)
 }
 
 fn at_most_59(n: u32) -> usize
@@ -161,11 +170,11 @@ fn at_most_59(n: u32) -> usize
     if n < 59 { n as usize } else { 59 }
 }
 
-fn write_recording(out: [u8; 65536], frames: usize) -> bool
+fn write_recording(to: &mut impl Write, out: &[u8; 65536], frames: usize) -> bool
     requires { frames ≤ 59 }
 {
     let m = 1024 * (frames + 1);
-    io::write_all(STDOUT_FILENO, &out[..m])
+    to.write_all(&out[..m]).is_ok()
 }
 
 // The bytes of a frame's samples.
@@ -175,43 +184,48 @@ fn sample_bytes(rate: i32, subframes: i32) -> usize
     2 * shape::frame_length(rate, subframes)
 }
 
-fn record_stream(h: Head) {
+fn record_stream(
+    input: &mut impl Read,
+    to: &mut impl Write,
+    err: &mut impl Write,
+    h: Head,
+) -> io::Result<()> {
     let rate = signed_byte(h.rate);
     let subframes = signed_byte(h.subframes);
     let frames = at_most_59(h.records);
-    let mut out = io::large_buffer();
+    let mut out = [0u8; 65536];
     begin(&mut out, rate, subframes);
     let n = sample_bytes(rate, subframes);
-    if !record_frames(&mut out, rate, subframes, n, frames) {
-        return;
+    if !record_frames(input, err, &mut out, rate, subframes, n, frames)? {
+        return Ok(());
     }
-    if !write_recording(out, frames) {
-        say(b"the recording could not be written\n");
-        return;
+    if !write_recording(to, &out, frames) {
+        return writeln!(err, "the recording could not be written");
     }
-    say_number(frames as u64);
-    say(b" of ");
-    say_number(h.records as u64);
-    say(b" frames recorded\n");
+    let records = h.records;
+    writeln!(err, "{frames} of {records} frames recorded")
 }
 
-fn main() {
+fn main(rt: HostRuntime) -> io::Result<()> {
+    let mut input = rt.stdin();
+    let mut out = rt.stdout();
+    let mut err = rt.stderr();
     let mut header = [0u8; 16];
-    let got = io::read_full(STDIN_FILENO, &mut header);
+    let got = if read_whole(&mut input, &mut header)? {
+        16
+    } else {
+        0
+    };
     match read_header(&header, got) {
-        Opened::Stream(h) => record_stream(h),
-        Opened::Cut => say(b"no stream: the file ends within its first 16 bytes\n"),
-        Opened::Foreign => say(b"no stream: the file has another format\n"),
+        Opened::Stream(h) => record_stream(&mut input, &mut out, &mut err, h),
+        Opened::Cut => writeln!(err, "no stream: the file ends within its first 16 bytes"),
+        Opened::Foreign => writeln!(err, "no stream: the file has another format"),
         Opened::Rate(rate) => {
-            say(b"no stream: its rate is ");
-            say_number(rate as u64);
-            say(b" kHz; recorded are 8, 12 and 16\n");
+            writeln!(err, "no stream: its rate is {rate} kHz; recorded are 8, 12 and 16")
         }
         Opened::Subframes(n) => {
-            say(b"no stream: its frames have ");
-            say_number(n as u64);
-            say(b" subframes; recorded are 2 and 4\n");
+            writeln!(err, "no stream: its frames have {n} subframes; recorded are 2 and 4")
         }
-        Opened::Long => say(b"the stream is too long for a WAV file\n"),
+        Opened::Long => writeln!(err, "the stream is too long for a WAV file"),
     }
 }

@@ -9,9 +9,9 @@ use decode_frame::silk_decode_frame;
 use decoder::{Settings, SilkDecoderState, set_up_with};
 use edition::NEWER;
 use le::signed_byte;
-use libc::{STDERR_FILENO, STDIN_FILENO, STDOUT_FILENO};
 use record::{control_in, frame_in, lines_in, pulses_in, rows_in};
 use refusal::Refusal;
+use std::io::{self, ErrorKind, Read, Write};
 use stream::{Head, Opened, no_bytes, read_header, samples_bytes, silence, wav_header};
 
 // A record's frame: why it is refused, the new state, and its samples as bytes.
@@ -96,34 +96,45 @@ fn blank() -> [u8; 817]
     [0; 817]
 }
 
-fn read_record(kind: u8, n: usize) -> Record
+// Whether the input had the bytes to fill the buffer; else it ended before.
+fn read_whole(input: &mut impl Read, buffer: &mut [u8]) -> io::Result<bool> {
+    match input.read_exact(buffer) {
+        Ok(()) => Ok(true),
+        Err(e) => {
+            if e.kind() == ErrorKind::UnexpectedEof {
+                Ok(false)
+            } else {
+                Err(e)
+            }
+        }
+    }
+}
+
+fn read_record(input: &mut impl Read, kind: u8, n: usize) -> io::Result<Record>
     requires { n ≤ 640 }
 {
     let mut bytes = blank();
     if kind == 0 {
-        return Record { bytes, whole: true };
+        return Ok(Record { bytes, whole: true });
     }
     let end = 177 + n;
-    let got = io::read_full(STDIN_FILENO, &mut bytes[1..end]);
+    let whole = read_whole(input, &mut bytes[1..end])?;
     bytes[0] = kind;
-    Record {
-        bytes,
-        whole: got == 176 + n,
-    }
+    Ok(Record { bytes, whole })
 }
 
 // The samples that end a record, which another decoder played, are passed over.
-fn pass_samples(n: usize) -> bool
+fn pass_samples(input: &mut impl Read, n: usize) -> io::Result<bool>
     requires { n ≤ 640 }
 {
     let mut bytes = no_bytes();
-    io::read_full(STDIN_FILENO, &mut bytes[..n]) == n
+    read_whole(input, &mut bytes[..n])
 }
 
-fn write_samples(bytes: [u8; 640], n: usize) -> bool
+fn write_samples(out: &mut impl Write, bytes: &[u8; 640], n: usize) -> bool
     requires { n ≤ 640 }
 {
-    io::write_all(STDOUT_FILENO, &bytes[..n])
+    out.write_all(&bytes[..n]).is_ok()
 }
 
 #[derive(Clone, Copy)]
@@ -152,99 +163,96 @@ fn how(kind: u8, refusal: Refusal) -> Ended
 }
 
 // One record, whose frame has the stream's shape and n bytes of samples.
-fn next(s: SilkDecoderState, rate: i32, subframes: i32, n: usize) -> Turn
+fn next(
+    input: &mut impl Read,
+    out: &mut impl Write,
+    s: SilkDecoderState,
+    rate: i32,
+    subframes: i32,
+    n: usize,
+) -> io::Result<Turn>
     requires { n ≤ 640 }
 {
     let mut first = [0u8; 1];
-    if io::read_full(STDIN_FILENO, &mut first) != 1 {
-        return ended_by(s, Ended::Cut);
+    if !read_whole(input, &mut first)? {
+        return Ok(ended_by(s, Ended::Cut));
     }
     let kind = first[0];
     if kind > 1 {
-        return ended_by(s, Ended::Kind(kind));
+        return Ok(ended_by(s, Ended::Kind(kind)));
     }
-    let record = read_record(kind, n);
+    let record = read_record(input, kind, n)?;
     let bytes = record.bytes;
     if !record.whole {
-        return ended_by(s, Ended::Cut);
+        return Ok(ended_by(s, Ended::Cut));
     }
-    if !pass_samples(n) {
-        return ended_by(s, Ended::Cut);
+    if !pass_samples(input, n)? {
+        return Ok(ended_by(s, Ended::Cut));
     }
     let sound = played(s, rate, subframes, &bytes);
     let refusal = sound.refusal;
     let state = sound.state;
     let samples = sound.bytes;
-    if !write_samples(samples, n) {
-        return ended_by(s, Ended::Unwritten);
+    if !write_samples(out, &samples, n) {
+        return Ok(ended_by(s, Ended::Unwritten));
     }
-    ended_by(state, how(kind, refusal))
+    Ok(ended_by(state, how(kind, refusal)))
 }
 
-fn say(text: &[u8]) {
-    io::write_all(STDERR_FILENO, text);
-}
-
-fn say_number(n: u64) {
-    io::print_decimal(STDERR_FILENO, n);
-}
-
-fn say_word(r: Refusal) {
+fn say_word(err: &mut impl Write, r: Refusal) -> io::Result<()> {
     let w = refusal::word(r);
     let letters = w.letters;
     let n = w.len;
-    say(&letters[..n]);
+    err.write_all(&letters[..n])
 }
 
-fn say_refusal(i: u32, r: Refusal) {
-    say(b"frame ");
-    say_number(i as u64);
-    say(b" refused: ");
-    say_number(refusal::number(r) as u64);
-    say(b" ");
-    say_word(r);
-    say(b"\n");
+fn say_refusal(err: &mut impl Write, i: u32, r: Refusal) -> io::Result<()> {
+    let number = refusal::number(r);
+    write!(err, "frame {i} refused: {number} ")?;
+    say_word(err, r)?;
+    writeln!(err)
 }
 
 // Says what is to be said of record i, and whether to go on.
-fn report(i: u32, e: Ended) -> bool {
+fn report(err: &mut impl Write, i: u32, e: Ended) -> io::Result<bool> {
     match e {
         Ended::Refused(r) => {
-            say_refusal(i, r);
-            true
+            say_refusal(err, i, r)?;
+            Ok(true)
         }
         Ended::Cut => {
-            say(b"the file ends within record ");
-            say_number(i as u64);
-            say(b"\n");
-            false
+            writeln!(err, "the file ends within record {i}")?;
+            Ok(false)
         }
         Ended::Kind(kind) => {
-            say(b"record ");
-            say_number(i as u64);
-            say(b" has the kind ");
-            say_number(kind as u64);
-            say(b"; known are 0 (lost) and 1 (received)\n");
-            false
+            writeln!(err, "record {i} has the kind {kind}; known are 0 (lost) and 1 (received)")?;
+            Ok(false)
         }
         Ended::Unwritten => {
-            say(b"the WAV file could not be written\n");
-            false
+            writeln!(err, "the WAV file could not be written")?;
+            Ok(false)
         }
-        _ => true,
+        _ => Ok(true),
     }
 }
 
-fn say_tally(t: Tally) {
-    say_number(t.received as u64);
-    say(b" received, ");
-    say_number(t.concealed as u64);
-    say(b" concealed, ");
-    say_number(t.refused as u64);
-    say(b" refused\n");
+fn say_tally(err: &mut impl Write, t: Tally) -> io::Result<()> {
+    let received = t.received;
+    let concealed = t.concealed;
+    let refused = t.refused;
+    writeln!(err, "{received} received, {concealed} concealed, {refused} refused")
 }
 
-fn play_records(s: SilkDecoderState, rate: i32, subframes: i32, n: usize, records: u32)
+fn play_records(
+    input: &mut impl Read,
+    out: &mut impl Write,
+    err: &mut impl Write,
+    s: SilkDecoderState,
+    rate: i32,
+    subframes: i32,
+    n: usize,
+    records: u32,
+) -> io::Result<()>
     requires { n ≤ 640 }
 {
     let mut state = s;
@@ -254,47 +262,47 @@ fn play_records(s: SilkDecoderState, rate: i32, subframes: i32, n: usize, record
         refused: 0,
     };
     for i in 0..records {
-        let turn = next(state, rate, subframes, n);
+        let turn = next(input, out, state, rate, subframes, n)?;
         let ended = turn.ended;
         let new = turn.state;
         state = new;
-        if !report(i, ended) {
-            return;
+        if !report(err, i, ended)? {
+            return Ok(());
         }
         t = counted(t, ended);
     }
     let mut more = [0u8; 1];
-    if io::read_full(STDIN_FILENO, &mut more) != 0 {
-        say(b"bytes follow the last record\n");
-        return;
+    if read_whole(input, &mut more)? {
+        return writeln!(err, "bytes follow the last record");
     }
-    say_tally(t);
+    say_tally(err, t)
 }
 
 // A frame of 2 subframes has 10 ms, one of 4 has 20.
-fn say_stream(h: Head) {
+fn say_stream(err: &mut impl Write, h: Head) -> io::Result<()> {
     let frames = h.records as u64;
     let ms = if h.subframes == 2 {
         10 * frames
     } else {
         20 * frames
     };
-    say_number(h.rate as u64);
-    say(b" kHz, ");
-    say_number(ms / 1000);
-    say(b".");
-    say_number(ms / 100 % 10);
-    say_number(ms / 10 % 10);
-    say(b" s\n");
+    let rate = h.rate;
+    let seconds = ms / 1000;
+    let hundredths = ms / 10 % 100;
+    writeln!(err, "{rate} kHz, {seconds}.{hundredths:02} s")
 }
 
-fn play(h: Head) {
+fn play(
+    input: &mut impl Read,
+    out: &mut impl Write,
+    err: &mut impl Write,
+    h: Head,
+) -> io::Result<()> {
     let rate = signed_byte(h.rate);
     let subframes = signed_byte(h.subframes);
     let head = wav_header(1000 * (h.rate as u32), h.samples);
-    if !io::write_all(STDOUT_FILENO, &head) {
-        say(b"the WAV file could not be written\n");
-        return;
+    if out.write_all(&head).is_err() {
+        return writeln!(err, "the WAV file could not be written");
     }
     // No squelch, and the newer edition: a stream's samples are those of the Rust.
     let settings = Settings {
@@ -304,34 +312,40 @@ fn play(h: Head) {
     let made = set_up_with(rate, subframes, settings);
     let s = made.state;
     play_records(
+        input,
+        out,
+        err,
         s,
         rate,
         subframes,
         2 * shape::frame_length(rate, subframes),
         h.records,
-    );
+    )
 }
 
-fn main() {
+fn main(rt: HostRuntime) -> io::Result<()> {
+    let mut input = rt.stdin();
+    let mut out = rt.stdout();
+    let mut err = rt.stderr();
     let mut header = [0u8; 16];
-    let got = io::read_full(STDIN_FILENO, &mut header);
+    let got = if read_whole(&mut input, &mut header)? {
+        16
+    } else {
+        0
+    };
     match read_header(&header, got) {
         Opened::Stream(h) => {
-            say_stream(h);
-            play(h)
+            say_stream(&mut err, h)?;
+            play(&mut input, &mut out, &mut err, h)
         }
-        Opened::Cut => say(b"no stream: the file ends within its first 16 bytes\n"),
-        Opened::Foreign => say(b"no stream: the file has another format\n"),
+        Opened::Cut => writeln!(err, "no stream: the file ends within its first 16 bytes"),
+        Opened::Foreign => writeln!(err, "no stream: the file has another format"),
         Opened::Rate(rate) => {
-            say(b"no stream: its rate is ");
-            say_number(rate as u64);
-            say(b" kHz; played are 8, 12 and 16\n");
+            writeln!(err, "no stream: its rate is {rate} kHz; played are 8, 12 and 16")
         }
         Opened::Subframes(n) => {
-            say(b"no stream: its frames have ");
-            say_number(n as u64);
-            say(b" subframes; played are 2 and 4\n");
+            writeln!(err, "no stream: its frames have {n} subframes; played are 2 and 4")
         }
-        Opened::Long => say(b"the stream is too long for a WAV file\n"),
+        Opened::Long => writeln!(err, "the stream is too long for a WAV file"),
     }
 }

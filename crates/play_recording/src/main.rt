@@ -5,9 +5,9 @@
 ghost use Rattle.std.specs.Prelude.{◌≡◌, ◌≤◌, length};
 
 use le::put16s;
-use libc::{STDERR_FILENO, STDIN_FILENO, STDOUT_FILENO};
 use playback::play;
 use refusal::{Refusal, number};
+use std::io::{self, Read, Write};
 
 // The samples of 60 records.
 fn no_samples() -> [i16; 19200]
@@ -22,27 +22,18 @@ fn no_bytes() -> [u8; 38400]
     [0; 38400]
 }
 
-fn say(text: &[u8]) {
-    io::write_all(STDERR_FILENO, text);
-}
-
-fn say_number(n: usize) {
-    io::print_decimal(STDERR_FILENO, n as u64);
-}
-
-fn say_word(r: Refusal) {
+fn say_word(err: &mut impl Write, r: Refusal) -> io::Result<()> {
     let w = refusal::word(r);
     let letters = w.letters;
     let n = w.len;
-    say(&letters[..n]);
+    err.write_all(&letters[..n])
 }
 
-fn say_refusal(r: Refusal) {
-    say(b"refused: ");
-    say_number(number(r) as usize);
-    say(b" ");
-    say_word(r);
-    say(b"\n");
+fn say_refusal(err: &mut impl Write, r: Refusal) -> io::Result<()> {
+    let number = number(r);
+    write!(err, "refused: {number} ")?;
+    say_word(err, r)?;
+    writeln!(err)
 }
 
 fn raw_bytes(samples: &[i16]) -> [u8; 38400]
@@ -54,34 +45,32 @@ fn raw_bytes(samples: &[i16]) -> [u8; 38400]
 }
 
 // The first n samples.
-fn write_samples(raw: [u8; 38400], n: usize) -> bool
+fn write_samples(out: &mut impl Write, raw: &[u8; 38400], n: usize) -> bool
     requires { n ≤ 19200 }
 {
     let m = 2 * n;
-    io::write_all(STDOUT_FILENO, &raw[..m])
+    out.write_all(&raw[..m]).is_ok()
 }
 
-fn play_bytes(bytes: &[u8]) {
+fn play_bytes(out: &mut impl Write, err: &mut impl Write, bytes: &[u8]) -> io::Result<()> {
     let mut samples = no_samples();
     let p = play(bytes, &mut samples);
     let refusal = p.refusal;
     if number(refusal) != 0 {
-        say_refusal(refusal);
-        return;
+        return say_refusal(err, refusal);
     }
     let raw = raw_bytes(&samples);
-    if !write_samples(raw, p.samples) {
-        say(b"the samples could not be written\n");
-        return;
+    if !write_samples(out, &raw, p.samples) {
+        return writeln!(err, "the samples could not be written");
     }
-    say_number(p.received);
-    say(b" received, ");
-    say_number(p.concealed);
-    say(b" concealed\n");
+    let received = p.received;
+    let concealed = p.concealed;
+    writeln!(err, "{received} received, {concealed} concealed")
 }
 
-fn main() {
-    let mut bytes = io::large_buffer();
-    let n = io::read_full(STDIN_FILENO, &mut bytes);
-    play_bytes(&bytes[..n]);
+// At most 65,536 bytes are read.
+fn main(rt: HostRuntime) -> io::Result<()> {
+    let mut bytes = Vec::new(rt.alloc());
+    rt.stdin().take(65536).read_to_end(&mut bytes)?;
+    play_bytes(&mut rt.stdout(), &mut rt.stderr(), bytes.as_slice())
 }

@@ -7,9 +7,9 @@ ghost use Rattle.replay.specs.Put.{room, shorts, put};
 ghost use Rattle.replay.specs.Sum.{sum_all};
 
 use checksum::{sum16, sum32};
-use libc::{STDIN_FILENO, STDOUT_FILENO};
 use line::{Line, blank, fed};
 use sigproc::{copy16_at, copy32_at};
+use std::io::{self, Read};
 use word::{bits32, low16};
 
 const SET_UP: i32 = 0;
@@ -524,19 +524,10 @@ fn sum(l: Lent) -> i32
 }
 
 // What is written of a call: its number, its answer, the check sum.
-fn write_line(calls: u64, c: Called) {
+fn write_line(rt: &impl Print, calls: u64, c: Called) -> io::Result<()> {
     let answer = c.answer;
-    let left = c.left;
-    io::print_decimal(STDOUT_FILENO, calls);
-    if answer < 0 {
-        io::write_all(STDOUT_FILENO, b" -");
-    } else {
-        io::write_all(STDOUT_FILENO, b" ");
-    }
-    io::print_decimal(STDOUT_FILENO, bits32(word::abs32(answer)) as u64);
-    io::write_all(STDOUT_FILENO, b" ");
-    io::print_hex(STDOUT_FILENO, bits32(sum(left)) as u64, 8);
-    io::write_all(STDOUT_FILENO, b"\n");
+    let left = bits32(sum(c.left));
+    println!(rt; "{calls} {answer} {left:08x}")
 }
 
 #[derive(Clone, Copy)]
@@ -561,7 +552,7 @@ fn more(n: u64) -> u64 {
 }
 
 // A line that ends: one with no number is passed over.
-fn stepped(r: Run) -> Run {
+fn stepped(rt: &impl Print, r: Run) -> io::Result<Run> {
     let line = r.line;
     let left = r.left;
     let row = line.row;
@@ -570,44 +561,39 @@ fn stepped(r: Run) -> Run {
     let fresh = blank();
     new.line = fresh;
     if count == 0 {
-        return new;
+        return Ok(new);
     }
     if row[0] >= WORDS {
         let put = stored(left, row, count);
         new.left = put;
-        return new;
+        return Ok(new);
     }
     let c = made(left, row);
     let calls = more(r.calls);
-    write_line(calls, c);
+    write_line(rt, calls, c)?;
     let after = c.left;
     new.calls = calls;
     new.left = after;
-    new
+    Ok(new)
 }
 
-fn replayed(r: Run, text: &[u8]) -> Run {
+fn replayed(rt: &impl Print, r: Run, text: &[u8]) -> io::Result<Run> {
     let mut new = r;
-    for i in 0..text.len() {
-        let b = text[i];
-        let line = fed(new.line, b);
+    for b in text {
+        let line = fed(new.line, *b);
         new.line = line;
-        if b == b'\n' {
-            new = stepped(new);
+        if *b == b'\n' {
+            new = stepped(rt, new)?;
         }
     }
-    new
+    Ok(new)
 }
 
-fn main() {
-    let mut text = io::large_buffer();
-    let mut r = started();
-    // At most 64 parts of 65,536 bytes are read.
-    let parts: usize = 64;
-    for i in 0..parts {
-        let n = io::read_full(STDIN_FILENO, &mut text);
-        r = replayed(r, &text[..n]);
-    }
-    io::print_decimal(STDOUT_FILENO, r.calls);
-    io::write_all(STDOUT_FILENO, b" calls\n");
+// At most 4,194,304 bytes are read.
+fn main(rt: HostRuntime) -> io::Result<()> {
+    let mut text = Vec::new(rt.alloc());
+    rt.stdin().take(4194304).read_to_end(&mut text)?;
+    let r = replayed(&rt, started(), text.as_slice())?;
+    let calls = r.calls;
+    println!(rt; "{calls} calls")
 }

@@ -5,9 +5,9 @@ use decoder::{
     Frame, Params, Settings, Signal, SilkCNGState, SilkDecoderControl, SilkDecoderState,
     SilkPLCState, set_up, set_up_with, signal_of,
 };
-use libc::{STDIN_FILENO, STDOUT_FILENO};
 use line::{Line, blank, fed};
 use refusal::number;
+use std::io::{self, Read};
 use word::{add32, low16};
 
 const RECEIVED: i32 = 0;
@@ -609,53 +609,47 @@ fn more(n: u64) -> u64 {
     if n < 1000000 { n + 1 } else { n }
 }
 
-fn write_line(lines: u64) {
-    io::write_all(STDOUT_FILENO, b"failed: line ");
-    io::print_decimal(STDOUT_FILENO, lines);
-    io::write_all(STDOUT_FILENO, b"\n");
-}
-
 // A line that ends; one that holds neither eight numbers nor ten is no case.
-fn tallied(t: Tally, l: Line) -> Tally {
+fn tallied(rt: &impl Print, t: Tally, l: Line) -> io::Result<Tally> {
     let mut new = t;
     new.lines = more(t.lines);
     if (l.count != 8) & (l.count != 10) {
-        return new;
+        return Ok(new);
     }
     let row = l.row;
     if right(row, l.count) {
         new.passed = more(t.passed);
     } else {
-        write_line(new.lines);
+        let line = new.lines;
+        println!(rt; "failed: line {line}")?;
         new.failed = more(t.failed);
     }
-    new
+    Ok(new)
 }
 
-fn run(text: &[u8]) -> Tally {
+fn run(rt: &impl Print, text: &[u8]) -> io::Result<Tally> {
     let mut t = Tally {
         lines: 0,
         passed: 0,
         failed: 0,
     };
     let mut l = blank();
-    for i in 0..text.len() {
-        let b = text[i];
-        l = fed(l, b);
-        if b == b'\n' {
-            t = tallied(t, l);
+    for b in text {
+        l = fed(l, *b);
+        if *b == b'\n' {
+            t = tallied(rt, t, l)?;
             l = blank();
         }
     }
-    t
+    Ok(t)
 }
 
-fn main() {
-    let mut text = io::large_buffer();
-    let n = io::read_full(STDIN_FILENO, &mut text);
-    let t = run(&text[..n]);
-    io::print_decimal(STDOUT_FILENO, t.passed);
-    io::write_all(STDOUT_FILENO, b" passed, ");
-    io::print_decimal(STDOUT_FILENO, t.failed);
-    io::write_all(STDOUT_FILENO, b" failed\n");
+// At most 65,536 bytes are read.
+fn main(rt: HostRuntime) -> io::Result<()> {
+    let mut text = Vec::new(rt.alloc());
+    rt.stdin().take(65536).read_to_end(&mut text)?;
+    let t = run(&rt, text.as_slice())?;
+    let passed = t.passed;
+    let failed = t.failed;
+    println!(rt; "{passed} passed, {failed} failed")
 }
