@@ -13,8 +13,8 @@ else
     mkdir -p "$target"
     log=$target/staticlib.log
     for crate in post post_filters; do
-        echo "compare: rt staticlib $crate proves and builds the library" >&2
-        (cd "$top" && rt staticlib "$crate") >"$log" 2>&1 || { cat "$log" >&2; exit 1; }
+        echo "compare: tools/staticlib $crate proves and builds the library" >&2
+        "$top/tools/staticlib" "$crate" >"$log" 2>&1 || { cat "$log" >&2; exit 1; }
         POST_LIBRARIES=${POST_LIBRARIES:+$POST_LIBRARIES:}$top/target/staticlib/lib$crate.a
     done
     export POST_LIBRARIES

@@ -1,7 +1,7 @@
 /* The yard post's SILK back end: a frame's decoded parameters in, its samples out.
  *
- * `rt staticlib post` builds it (target/staticlib/libpost.a), `rt staticlib post_filters` the
- * functions of filters (target/staticlib/libpost_filters.a) and `rt staticlib post_load` those of the
+ * `tools/staticlib post` builds it (target/staticlib/libpost.a), `tools/staticlib post_filters` the
+ * functions of filters (target/staticlib/libpost_filters.a) and `tools/staticlib post_load` those of the
  * load (target/staticlib/libpost_load.a); any of the archives may be linked, alone or with others. They
  * are for x86-64 Linux alone. They call memcpy and memset and nothing else, and have no variables of
  * their own: calls on different states may run at the same time. A call takes up to 31,496 bytes of

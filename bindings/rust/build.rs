@@ -1,5 +1,5 @@
-//! Links libpost.a and, with the feature `filters`, libpost_filters.a: `rt staticlib post` and `rt staticlib post_filters` make them under the
-//! repository's target/, or POST_LIBRARY names the first, beside which the second is to lie.
+//! Links libpost.a and, with the feature `filters`, libpost_filters.a: `tools/staticlib` makes them under the repository's target/, or POST_LIBRARY
+//! names the first, beside which the second is to lie.
 
 use std::env;
 use std::fs;
@@ -19,7 +19,7 @@ fn link(name: &str, library: &Path) {
     println!("cargo::rerun-if-changed={}", library.display());
     if !library.is_file() {
         fail(&format!(
-            "{}: there is no such file. `rt staticlib {name}` makes the library, and POST_LIBRARY may name libpost.a.",
+            "{}: there is no such file. `tools/staticlib {name}` makes the library, and POST_LIBRARY may name libpost.a.",
             library.display()
         ));
     }

@@ -138,7 +138,10 @@ fn report(err: &mut impl Write, i: usize, e: Ended) -> io::Result<bool> {
             Ok(false)
         }
         Ended::Kind(kind) => {
-            writeln!(err, "record {i} has the kind {kind}; known are 0 (lost) and 1 (received)")?;
+            writeln!(
+                err,
+                "record {i} has the kind {kind}; known are 0 (lost) and 1 (received)"
+            )?;
             Ok(false)
         }
     }
@@ -221,10 +224,16 @@ fn main(rt: HostRuntime) -> io::Result<()> {
         Opened::Cut => writeln!(err, "no stream: the file ends within its first 16 bytes"),
         Opened::Foreign => writeln!(err, "no stream: the file has another format"),
         Opened::Rate(rate) => {
-            writeln!(err, "no stream: its rate is {rate} kHz; recorded are 8, 12 and 16")
+            writeln!(
+                err,
+                "no stream: its rate is {rate} kHz; recorded are 8, 12 and 16"
+            )
         }
         Opened::Subframes(n) => {
-            writeln!(err, "no stream: its frames have {n} subframes; recorded are 2 and 4")
+            writeln!(
+                err,
+                "no stream: its frames have {n} subframes; recorded are 2 and 4"
+            )
         }
         Opened::Long => writeln!(err, "the stream is too long for a WAV file"),
     }
