@@ -58,7 +58,7 @@ returns c =
     let noise : c.lost-s_cng.result ≡ sounded s.settings.edition (lpc_order p) h (frame_length p) = rw (c.lost-s_cng.ensures.0, khz c.before.before.before.before.before.before.before.before, ed, c.requires.3) in
     let heard : c.lost-s_cng.new.frame ≡ y = rw (c.lost-s_cng.ensures.1, khz c.before.before.before.before.before.before.before.before, ed, c.requires.3, kept w16 s.s_plc.rand_scale_q14 c.struct_told-1.given.1.1.1.1.1.0.1, kept w32 (get_or s.s_plc.prev_gain_q16 1 (pos 0)) c.lost-arg-1.given) in
     let left = c.leave_energy-s_plc.ensures ∙ λ i. hold_energy s.s_plc (pos 1) (pos (energy_at (heard i) (energy_shift (heard i)))) (pos (energy_shift (heard i))) in
-    let lag = kept w32 (get_or a.c.pitch_l (c.count_of.result - 1) (pos 0)) c.t-1.given ∙ ap (λ c.before.before.before.before.before.before. get_or a.c.pitch_l (c.before.before.before.before.before.before - 1) (pos 0)) (count c.before) in
+    let lag = kept w32 (get_or a.c.pitch_l (c.count_of.result - 1) (pos 0)) c.t-1.given ∙ ap (λ n. get_or a.c.pitch_l (n - 1) (pos 0)) (count c.before) in
     let one : ◌≡◌ {A = Outcome} (record { state = _; control = a.c; samples = c.lost-s_cng.new.frame }) (faded p s a.c x) =
     λ i. record {
       state = with_plc (with_noise (with_lag s (lag i)) (noise i)) (left i);

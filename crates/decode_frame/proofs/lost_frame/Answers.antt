@@ -78,4 +78,4 @@ unfolding whole_frame reshaped reshaped_by
 returns c =
     let o = c.lost-o in
     let a = c.args in
-    played-answer a.s (frame_call a.khz a.nb_subfr Lost a.c [] [] [] a.xq.now) _ (judged c.before.before.before.before.before.before.before.before.before) (sym (refused c.before.before.before.before.before.before.before.before) ∙ c.if-number-ne0.false) _ _ (o.ensures ∙ ap (λ (c.before.before.before.before.before : SilkDecoderState). muted (shape_of c.before.before.before.before.before) (squelched c.before.before.before.before.before) (lost (shape_of c.before.before.before.before.before) c.before.before.before.before.before a.c)) (moved c.before.before.before.before.before)) (samples c.before.before.before.before.before.before)
+    played-answer a.s (frame_call a.khz a.nb_subfr Lost a.c [] [] [] a.xq.now) _ (judged c.before.before.before.before.before.before.before.before.before) (sym (refused c.before.before.before.before.before.before.before.before) ∙ c.if-number-ne0.false) _ _ (o.ensures ∙ ap (λ (t : SilkDecoderState). muted (shape_of t) (squelched t) (lost (shape_of t) t a.c)) (moved c.before.before.before.before.before)) (samples c.before.before.before.before.before.before)

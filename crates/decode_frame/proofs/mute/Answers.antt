@@ -5,7 +5,6 @@ use native.Mathlib.Omega.{arith}
 use native.Mathlib.Nat.{le_antisymm}
 use native.Mathlib.Numerals.{add-one}
 use borrow.Author.Rules.{rules}
-use borrow.Author.Tests.{not-true, not-false}
 use lib.IntN.{pos}
 use lib.ListN.{length, drop, replicate}
 use lib.Seq.{drop-length}
@@ -13,7 +12,7 @@ use Rattle.cng.proofs.Signals.{more-zeros}
 use Rattle.decode_frame.proofs.mute.Goals as goal
 
 pub returns-then-not-b : goal.returns-then-not-b
-returns-then-not-b c = rw (not-true c.args.b c.if-not-b.true) refl
+returns-then-not-b c = rw (c.if-not-b.true) refl
 
 pub loop-i-init : goal.loop-i-init
 loop-i-init c = (search rules, search rules, search rules, refl)
@@ -29,4 +28,4 @@ loop-i-preserved c = (
 pub returns : goal.returns
 returns c =
     let x = c.args.xq.now in
-    rw (c.loop-i.invariant.3, le_antisymm c.loop-i.invariant.0 c.loop-i-test.false, drop-length x, append-nil (replicate (length x) (pos 0)), not-false c.args.b c.if-not-b.false)
+    rw (c.loop-i.invariant.3, le_antisymm c.loop-i.invariant.0 c.loop-i-test.false, drop-length x, append-nil (replicate (length x) (pos 0)), c.if-not-b.false)

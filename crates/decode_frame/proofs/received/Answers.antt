@@ -165,12 +165,12 @@ returns c =
     let gain = kept w32 d.result.gain c.struct_told-4-1.given.1.0.1 in
     let history : c.update_out_buf-history.result ≡ update_out_buf ob (mem_length p) x = c.update_out_buf-history.ensures ∙ ap (λ m. update_out_buf ob m x) (memory_length c.before.before.before.before.before.before.before.before.before.before.before.before.before.before.before.before.before.before.before.before.before.before.before.before.before.before.before.before.before.before.before.before.before.before) in
     let lines : c.with_front-nlsf.result ≡ take (lpc_order p) a.lines ++ drop (lpc_order p) s.prev_nlsf_q15 = c.with_front-nlsf.ensures ∙ ap (λ d. take d a.lines ++ drop d s.prev_nlsf_q15) (order c.before.before.before.before.before.before.before.before.before.before.before.before.before.before.before.before.before.before.before.before.before.before.before.before.before.before.before.before.before.before.before.before.before.before) in
-    let lag = kept w32 (get_or d.result.control.pitch_l (c.count_of-count.result - 1) (pos 0)) c.state-1.given ∙ ap (λ c.before.before.before.before.before.before.before. get_or d.result.control.pitch_l (c.before.before.before.before.before.before.before - 1) (pos 0)) (count c.before.before.before.before.before.before.before.before.before.before.before.before.before.before.before.before.before.before.before.before.before.before.before.before.before.before.before.before.before.before.before.before.before.before.before) in
+    let lag = kept w32 (get_or d.result.control.pitch_l (c.count_of-count.result - 1) (pos 0)) c.state-1.given ∙ ap (λ n. get_or d.result.control.pitch_l (n - 1) (pos 0)) (count c.before.before.before.before.before.before.before.before.before.before.before.before.before.before.before.before.before.before.before.before.before.before.before.before.before.before.before.before.before.before.before.before.before.before.before) in
     let kind = got w32 c.type_number-kind.type_inv c.type_number-kind.ensures in
     let noise : c.received-s_cng.result ≡ heard_noise p exc (take (lpc_order p) a.lines ++ drop (lpc_order p) s.prev_nlsf_q15) d.result.control.gains_q16 (signal_number signal) s.s_cng =
     rw (c.received-s_cng.ensures, khz c.before.before.before.before.before.before.before.before.before.before.before.before.before.before.before.before.before.before.before.before.before.before.before.before.before.before.before.before.before.before.before.before.before.before.before.before.before, nb c.before.before.before.before.before.before.before.before.before.before.before.before.before.before.before.before.before.before.before.before.before.before.before.before.before.before.before.before.before.before.before.before.before.before.before.before, lines, kind) in
-    let plc = c.receive-s_plc.ensures.0 ∙ ap (λ c.before.before.before.before.before.before.before.before.before.before.before.before.before.before. hold_energy c.before.before.before.before.before.before.before.before.before.before.before.before.before.before (pos 0) c.conc_energy c.conc_energy_shift) (updated c.before.before.before.before.before.before.before.before.before.before.before.before) in
-    let q : SilkPLCState → List ℤ = λ (c.before.before.before.before.before.before.before.before.before.before.before.before.before.before : SilkPLCState). cond (eq_ℤ c.last_frame_lost (pos 0)) x (joined c.conc_energy c.conc_energy_shift x) in
+    let plc = c.receive-s_plc.ensures.0 ∙ ap (λ h. hold_energy h (pos 0) h.conc_energy h.conc_energy_shift) (updated c.before.before.before.before.before.before.before.before.before.before.before.before) in
+    let q : SilkPLCState → List ℤ = λ (h : SilkPLCState). cond (eq_ℤ h.last_frame_lost (pos 0)) x (joined h.conc_energy h.conc_energy_shift x) in
     let one : ◌≡◌ {A = Outcome} (record { state = _; control = d.result.control; samples = c.receive-s_plc.new.frame }) (heard p t d.result.control x signal a.rows) =
     λ i. record {
       state = record {

@@ -80,5 +80,5 @@ returns c =
     let o = c.received-o in
     let a = c.args in
     played-answer a.s (frame_call a.khz a.nb_subfr (Received a.q) a.c a.rows a.lines a.pulses.now a.xq.now) _ (judged c.before.before.before.before.before.before.before.before.before) (sym (refused c.before.before.before.before.before.before.before.before) ∙ c.if-number-ne0.false) _ _
-    (o.ensures ∙ ap (λ (c.before.before.before.before.before : SilkDecoderState). received (shape_of c.before.before.before.before.before) c.before.before.before.before.before a.q a.c a.rows a.lines a.pulses.now) (moved c.before.before.before.before.before))
+    (o.ensures ∙ ap (λ (t : SilkDecoderState). received (shape_of t) t a.q a.c a.rows a.lines a.pulses.now) (moved c.before.before.before.before.before))
     (samples c.before.before.before.before.before.before)
