@@ -16,11 +16,8 @@ use Rattle.decoder.specs.State.{shape_of}
 use Rattle.cng.specs.Noise.{cng_ready, sounding, sounded}
 use Rattle.glue.specs.Glue.{hold_energy}
 use Rattle.decode_frame.proofs.Heard.{sound, faded, faded-is}
-use Rattle.decode_frame.proofs.finished.Goals.{After-count_of, After-struct_told-2-1}
+use Rattle.decode_frame.proofs.finished.Goals.{After-count_of}
 use Rattle.decode_frame.proofs.finished.Goals as goal
-
-khz : (c : After-struct_told-2-1) → let s = c.args.s in to_z w32 (of_z w32 s.fs_khz) ≡ s.fs_khz
-khz c = kept w32 _ c.struct_told-2-1.given.1.1.1.1.1.0.1
 
 count : (c : After-count_of) → let s = c.args.s in c.count_of.result ≡ count_of s.nb_subfr
 count c = c.count_of.ensures ∙ ap count_of (kept w32 _ c.struct_told-4-1.given.1.1.1.1.1.1.0.1)
@@ -30,7 +27,8 @@ some c = rw (count c) (count_range (counts _ c.requires.1))
 
 pub lost-s_cng-requires : goal.lost-s_cng-requires
 lost-s_cng-requires c =
-    rw (khz c.before) (c.requires.0, c.requires.2, omega (arith, c.requires.3, frame_le c.args.s.fs_khz c.args.s.nb_subfr))
+    let khz = kept w32 c.args.s.fs_khz c.struct_told-2-1.given.1.1.1.1.1.0.1 in
+    rw (khz) (c.requires.0, c.requires.2, omega (arith, c.requires.3, frame_le c.args.s.fs_khz c.args.s.nb_subfr))
 
 pub leave_energy-s_plc-requires : goal.leave_energy-s_plc-requires
 leave_energy-s_plc-requires c =
@@ -48,6 +46,7 @@ bounds-lags-count_of c = omega (arith, some c)
 
 pub returns : goal.returns
 returns c =
+    let khz = kept w32 c.args.s.fs_khz c.struct_told-2-1.given.1.1.1.1.1.0.1 in
     let a = c.args in
     let s = a.s in
     let p = shape_of s in
@@ -55,8 +54,8 @@ returns c =
     let h = cng_ready p.rate s.s_cng in
     let y = sound p s a.c x in
     let ed = kept w32 s.settings.edition c.struct_told-3-1.given.1.0.1 in
-    let noise : c.lost-s_cng.result ≡ sounded s.settings.edition (lpc_order p) h (frame_length p) = rw (c.lost-s_cng.ensures.0, khz c.before.before.before.before.before.before.before.before, ed, c.requires.3) in
-    let heard : c.lost-s_cng.new.frame ≡ y = rw (c.lost-s_cng.ensures.1, khz c.before.before.before.before.before.before.before.before, ed, c.requires.3, kept w16 s.s_plc.rand_scale_q14 c.struct_told-1.given.1.1.1.1.1.0.1, kept w32 (get_or s.s_plc.prev_gain_q16 1 (pos 0)) c.lost-arg-1.given) in
+    let noise : c.lost-s_cng.result ≡ sounded s.settings.edition (lpc_order p) h (frame_length p) = rw (c.lost-s_cng.ensures.0, khz, ed, c.requires.3) in
+    let heard : c.lost-s_cng.new.frame ≡ y = rw (c.lost-s_cng.ensures.1, khz, ed, c.requires.3, kept w16 s.s_plc.rand_scale_q14 c.struct_told-1.given.1.1.1.1.1.0.1, kept w32 (get_or s.s_plc.prev_gain_q16 1 (pos 0)) c.lost-arg-1.given) in
     let left = c.leave_energy-s_plc.ensures ∙ λ i. hold_energy s.s_plc (pos 1) (pos (energy_at (heard i) (energy_shift (heard i)))) (pos (energy_shift (heard i))) in
     let lag = kept w32 (get_or a.c.pitch_l (c.count_of.result - 1) (pos 0)) c.t-1.given ∙ ap (λ n. get_or a.c.pitch_l (n - 1) (pos 0)) (count c.before) in
     let one : ◌≡◌ {A = Outcome} (record { state = _; control = a.c; samples = c.lost-s_cng.new.frame }) (faded p s a.c x) =

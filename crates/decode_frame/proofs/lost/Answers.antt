@@ -64,8 +64,8 @@ pub remembered-t-requires : goal.remembered-t-requires
 remembered-t-requires c =
     let s = c.args.s in
     let b = bounds (rate_of s.fs_khz) s c.requires.0 in
-    let l : frame_length (shape_of c.plc_conceal-o.result.state) ≡ frame_length (shape_of s) = λ i. frame_length (shape (khz c.before.before.before.before i) (nb c.before.before.before.before i)) in
-    (ap is_rate (khz c.before.before.before.before) ∙ b.sizes.rate, ap is_count (nb c.before.before.before.before) ∙ b.sizes.count, omega (arith, c.plc_conceal-o.auto, c.requires.2, l))
+    let l : frame_length (shape_of c.plc_conceal-o.result.state) ≡ frame_length (shape_of s) = λ i. frame_length (shape (khz c.before.before.before i) (nb c.before.before.before i)) in
+    (ap is_rate (khz c.before.before.before) ∙ b.sizes.rate, ap is_count (nb c.before.before.before) ∙ b.sizes.count, omega (arith, c.plc_conceal-o.auto, c.requires.2, l))
 
 pub finished-u-requires : goal.finished-u-requires
 unfolding remembered
@@ -73,14 +73,14 @@ finished-u-requires c =
     let r = c.remembered-t.ensures in
     let s = c.args.s in
     let b = bounds (rate_of s.fs_khz) s c.requires.0 in
-    let khz' = ap (λ t. t.fs_khz) r ∙ khz c.before.before.before.before.before.before in
-    let nb' = ap (λ t. t.nb_subfr) r ∙ nb c.before.before.before.before.before.before in
+    let khz' = ap (λ t. t.fs_khz) r ∙ khz c.before.before.before.before.before in
+    let nb' = ap (λ t. t.nb_subfr) r ∙ nb c.before.before.before.before.before in
     let l : frame_length (shape_of c.remembered-t.result) ≡ frame_length (shape_of s) = λ i. frame_length (shape (khz' i) (nb' i)) in (
       ap is_rate khz' ∙ b.sizes.rate,
       ap is_count nb' ∙ b.sizes.count,
-      (λ i. cng_fits (rate_of (khz' i)) ((ap (λ t. t.s_cng) r ∙ cng c.before.before.before.before.before.before) i)) ∙ cng_fits_lem (rate_of s.fs_khz) s.s_cng b.cng,
+      (λ i. cng_fits (rate_of (khz' i)) ((ap (λ t. t.s_cng) r ∙ cng c.before.before.before.before.before) i)) ∙ cng_fits_lem (rate_of s.fs_khz) s.s_cng b.cng,
       omega (arith, c.plc_conceal-o.auto, c.requires.2, l),
-      ap (λ t. eq_ℤ t.loss_cnt (pos 0)) r ∙ loss c.before.before.before.before.before.before,
+      ap (λ t. eq_ℤ t.loss_cnt (pos 0)) r ∙ loss c.before.before.before.before.before,
     )
 
 pub returns : goal.returns

@@ -14,7 +14,7 @@ returns-in_default c =
     let f = c.ranges in
     let khz = to_z-of_z f.khz in
     let nb = to_z-of_z f.nb_subfr in
-    let was = sym c.enum_told-1.given.1 in (
+    let was = sym c.in_default.is in (
       e.0 ∙ λ i. frame_answer a.s (frame_call (khz i) (nb i) (was i) a.c a.rows a.lines a.pulses.now a.xq.now),
       e.1 ∙ λ i. frame_output a.s (frame_call (khz i) (nb i) (was i) a.c a.rows a.lines a.pulses.now a.xq.now),
     )
@@ -26,7 +26,7 @@ returns c =
     let f = c.ranges in
     let khz = to_z-of_z f.khz in
     let nb = to_z-of_z f.nb_subfr in
-    let was = sym c.f-1.given.1 in (
+    let was = sym c.in-Received.is in (
       e.0 ∙ λ i. frame_answer a.s (frame_call (khz i) (nb i) (was i) a.c a.rows a.lines a.pulses.now a.xq.now),
       e.1 ∙ λ i. frame_output a.s (frame_call (khz i) (nb i) (was i) a.c a.rows a.lines a.pulses.now a.xq.now),
     )
