@@ -1,5 +1,5 @@
 -- Set-up at a rate and a count: nothing is refused, and the state is accepted and typed.
-use Prim.Native.Nat.{ℕ, zero, suc, ◌<◌, ◌≤◌, zero-le}
+use Prim.Native.Nat.{ℕ, zero, suc, ◌<◌, zero-le}
 use mathlib.Core.Path.{◌≡◌, refl, ap}
 use mathlib.Core.Bool.{true, not}
 use native.Mathlib.Omega.{arith}

@@ -2,7 +2,7 @@
 use Rattle.std.specs.Prelude.{ℕ, List, ◌++◌, ℤ, drop}
 use Rattle.refusal.specs.Refusals.{if_accepted}
 use Rattle.refusal.specs.declared.Refusal.{Refusal}
-use Rattle.decoder.specs.Outcome.{Outcome, Framed}
+use Rattle.decoder.specs.Outcome.{Outcome}
 use Rattle.decoder.specs.declared.Answer.{Answer}
 use Rattle.decoder.specs.declared.StateAnswer.{StateAnswer}
 use Rattle.decoder.specs.declared.SilkDecoderState.{SilkDecoderState}

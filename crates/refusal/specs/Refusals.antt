@@ -1,5 +1,5 @@
 -- Document 01, "Why a frame is turned down", and document 02's rows 14 to 23: the number and the word of each.
-use Rattle.std.specs.Prelude.{ℕ, ◌-◌, List, [], ◌∷◌, ◌++◌, cond, eqb, length, replicate}
+use Rattle.std.specs.Prelude.{ℕ, ◌-◌, ◌++◌, cond, eqb, length, replicate}
 use Prim.Native.String.{String}
 use Rattle.refusal.specs.Letters.{letters}
 use Rattle.refusal.specs.declared.Refusal.{Refusal}

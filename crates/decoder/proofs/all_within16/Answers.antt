@@ -1,11 +1,9 @@
 use lib.ListN.{get_or}
 use lib.IntN.{pos}
-use Prim.Native.Nat.{◌≤◌, ◌-◌}
-use mathlib.Core.Path.{◌≡◌, refl}
+use mathlib.Core.Path.{refl}
 use native.Mathlib.Nat.{le_antisymm}
 use native.Mathlib.Numerals.{add-one}
 use mir.Syntax.{w16, w32}
-use mir.Val.{to_z}
 use mir.Facts.{to_z-of_z}
 use Rattle.word.proofs.Words.{kept}
 use Rattle.decoder.specs.Ranges.{all_within}

@@ -1,4 +1,3 @@
-use borrow.Author.Rules.{rules}
 use mir.Syntax.{w32}
 use Rattle.decoder.proofs.Tests.{is_key}
 use Rattle.decoder.proofs.equals.Goals as goal

@@ -1,5 +1,4 @@
 use lib.Dec.{lit<}
-use borrow.Author.Rules.{rules}
 use mir.Syntax.{w16, w32}
 use Rattle.word.proofs.Words.{kept}
 use Rattle.decoder.specs.Ranges.{taps_held}

@@ -1,7 +1,6 @@
 use mathlib.Core.Path.{◌∙◌}
 use lib.IntN.{pos}
 use lib.ListN.{get_or}
-use borrow.Author.Rules.{rules}
 use mir.Syntax.{w16, w32}
 use mir.Val.{SFits}
 use mir.Facts.{to_z-of_z}

@@ -1,6 +1,3 @@
-use borrow.Author.Rules.{rules}
-use lib.IntN.{pos, ◌+ℤ◌}
-use lib.ListN.{get_or}
 use mir.Syntax.{w32}
 use Rattle.word.proofs.Words.{kept}
 use Rattle.judge.specs.Taps.{tap_sum}

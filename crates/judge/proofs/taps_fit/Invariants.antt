@@ -1,10 +1,5 @@
 use Prim.Native.Nat.{◌-◌, ◌≤◌}
-use mathlib.Core.Path.{◌≡◌, refl}
-use native.Mathlib.Nat.{le_antisymm}
-use native.Mathlib.Numerals.{add-one}
-use borrow.Author.Rules.{rules}
-use mir.Syntax.{w32}
-use Rattle.word.proofs.Words.{kept}
+use mathlib.Core.Path.{◌≡◌}
 use Rattle.judge.specs.Taps.{taps_fit}
 use Rattle.judge.proofs.taps_fit.Given as goal
 

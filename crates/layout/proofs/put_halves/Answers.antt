@@ -11,19 +11,19 @@ use Rattle.layout.proofs.put_halves.Goals.{Start}
 use Rattle.layout.proofs.put_halves.Goals as goal
 
 -- the lengths of the arrays
-filter_length : (c : Start) → length c.args.t1.s_plc.prev_lpc_q12 ≡ 16
-filter_length c = search (rules, c.well-formed.0.1.1.1.1.1.1.1.1.1.1.1.1.1.1.1.1.1.1.0)
+filter_length : (c : Start) → length c.args.s.s_plc.prev_lpc_q12 ≡ 16
+filter_length c = search (rules, c.well_formed.0.1.1.1.1.1.1.1.1.1.1.1.1.1.1.1.1.1.1.0)
 
-sizes : (c : Start) → let s = c.args.t1 in (length s.out_buf ≡ 480) × (length s.prev_nlsf_q15 ≡ 16) × (length s.s_plc.ltp_coef_q14 ≡ 5) × (length s.s_plc.prev_lpc_q12 ≡ 16) × (length s.s_cng.cng_smth_nlsf_q15 ≡ 16)
+sizes : (c : Start) → let s = c.args.s in (length s.out_buf ≡ 480) × (length s.prev_nlsf_q15 ≡ 16) × (length s.s_plc.ltp_coef_q14 ≡ 5) × (length s.s_plc.prev_lpc_q12 ≡ 16) × (length s.s_cng.cng_smth_nlsf_q15 ≡ 16)
 sizes c = (search rules, search rules, search rules, filter_length c, search rules)
 
 pub returns : goal.returns
 unfolding state_halves
 returns c =
     let a = c.args in
-    let s = a.t1 in
+    let s = a.s in
     let h = s.s_plc in
-    let z = sizes c.before.before.before.before.before.before.before.before.before.before.before.before.before.before.before.before.before.before.before.before.before.before.before.before.before.before.before.before.before.before.before.before.before.before.before.before.before.before in
+    let z = sizes (goal.at.returns c).Start in
     let f1 = begun s.out_buf 480 z.0 c.copy16_at.ensures in
     let f2 = next s.prev_nlsf_q15 16 496 f1 z.1 refl c.copy16_at-2.ensures in
     let f3 = next h.ltp_coef_q14 5 501 f2 z.2 refl c.copy16_at-3.ensures in

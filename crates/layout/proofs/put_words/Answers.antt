@@ -12,7 +12,7 @@ use Rattle.layout.proofs.put_words.Goals.{After-last_numbers-last, After-numbers
 use Rattle.layout.proofs.put_words.Goals as goal
 
 -- the lengths of the arrays
-sizes : (c : Start) → let s = c.args.t1 in (length s.exc_q14 ≡ 320) × (length s.s_lpc_q14_buf ≡ 16) × (length s.s_cng.cng_exc_buf_q14 ≡ 320) × (length s.s_cng.cng_synth_state ≡ 16)
+sizes : (c : Start) → let s = c.args.s in (length s.exc_q14 ≡ 320) × (length s.s_lpc_q14_buf ≡ 16) × (length s.s_cng.cng_exc_buf_q14 ≡ 320) × (length s.s_cng.cng_synth_state ≡ 16)
 sizes c = (search rules, search rules, search rules, search rules)
 
 twenty : (c : After-numbers-numbers) → length c.numbers-numbers.result ≡ 20
@@ -24,40 +24,40 @@ unfolding last_numbers
 five c = ap length c.last_numbers-last.ensures
 
 pub slice_bounds-copy32_at-end-4 : goal.slice_bounds-copy32_at-end-4
-slice_bounds-copy32_at-end-4 c = sym (twenty c.before.before.before.before.before.before.before.before.before.before.before.before.before.before.before.before.before.before.before.before)
+slice_bounds-copy32_at-end-4 c = sym (twenty (goal.at.slice_bounds-copy32_at-end-4 c).After-numbers-numbers)
 
 pub copy32_at-requires-4 : goal.copy32_at-requires-4
 copy32_at-requires-4 c =
-    let z = sizes c.before.before.before.before.before.before.before.before.before.before.before.before.before.before.before.before.before.before.before.before.before.before in
-    omega (arith, c.copy32_at.auto, c.copy32_at-2.auto, c.copy32_at-3.auto, c.requires, twenty c.before.before.before.before.before.before.before.before.before.before.before.before.before.before.before.before.before.before.before.before)
+    let z = sizes (goal.at.copy32_at-requires-4 c).Start in
+    omega (arith, c.copy32_at.auto, c.copy32_at-2.auto, c.copy32_at-3.auto, c.requires, twenty (goal.at.copy32_at-requires-4 c).After-numbers-numbers)
 
 pub copy32_at-requires-6 : goal.copy32_at-requires-6
 copy32_at-requires-6 c =
-    let z = sizes c.before.before.before.before.before.before.before.before.before.before.before.before.before.before.before.before.before.before.before.before.before.before.before.before.before.before.before.before.before.before.before.before.before.before in
-    omega (arith, c.copy32_at.auto, c.copy32_at-2.auto, c.copy32_at-3.auto, c.copy32_at-4.auto, c.copy32_at-5.auto, c.requires, twenty c.before.before.before.before.before.before.before.before.before.before.before.before.before.before.before.before.before.before.before.before.before.before.before.before.before.before.before.before.before.before.before.before)
+    let z = sizes (goal.at.copy32_at-requires-6 c).Start in
+    omega (arith, c.copy32_at.auto, c.copy32_at-2.auto, c.copy32_at-3.auto, c.copy32_at-4.auto, c.copy32_at-5.auto, c.requires, twenty (goal.at.copy32_at-requires-6 c).After-numbers-numbers)
 
 pub slice_bounds-copy32_at-end-7 : goal.slice_bounds-copy32_at-end-7
-slice_bounds-copy32_at-end-7 c = sym (five c.before.before.before.before.before.before.before.before.before.before.before.before.before.before.before.before.before.before.before.before.before.before.before.before.before.before.before.before.before.before.before.before.before.before.before)
+slice_bounds-copy32_at-end-7 c = sym (five (goal.at.slice_bounds-copy32_at-end-7 c).After-last_numbers-last)
 
 pub copy32_at-requires-7 : goal.copy32_at-requires-7
 copy32_at-requires-7 c =
-    let z = sizes c.before.before.before.before.before.before.before.before.before.before.before.before.before.before.before.before.before.before.before.before.before.before.before.before.before.before.before.before.before.before.before.before.before.before.before.before.before.before in
-    omega (arith, c.copy32_at.auto, c.copy32_at-2.auto, c.copy32_at-3.auto, c.copy32_at-4.auto, c.copy32_at-5.auto, c.copy32_at-6.auto, c.requires, twenty c.before.before.before.before.before.before.before.before.before.before.before.before.before.before.before.before.before.before.before.before.before.before.before.before.before.before.before.before.before.before.before.before.before.before.before.before, five c.before.before.before.before.before.before.before.before.before.before.before.before.before.before.before.before.before.before.before.before.before.before.before.before.before.before.before.before.before.before.before.before.before.before.before)
+    let z = sizes (goal.at.copy32_at-requires-7 c).Start in
+    omega (arith, c.copy32_at.auto, c.copy32_at-2.auto, c.copy32_at-3.auto, c.copy32_at-4.auto, c.copy32_at-5.auto, c.copy32_at-6.auto, c.requires, twenty (goal.at.copy32_at-requires-7 c).After-numbers-numbers, five (goal.at.copy32_at-requires-7 c).After-last_numbers-last)
 
 pub returns : goal.returns
 unfolding state_words
 returns c =
     let a = c.args in
-    let s = a.t1 in
+    let s = a.s in
     let h = s.s_cng in
-    let z = sizes c.before.before.before.before.before.before.before.before.before.before.before.before.before.before.before.before.before.before.before.before.before.before.before.before.before.before.before.before.before.before.before.before.before.before.before.before.before.before.before.before in
+    let z = sizes (goal.at.returns c).Start in
     let f1 = begun _ 1 refl c.copy32_at.ensures in
     let f2 = next s.exc_q14 320 321 f1 z.0 refl c.copy32_at-2.ensures in
     let f3 = next s.s_lpc_q14_buf 16 337 f2 z.1 refl c.copy32_at-3.ensures in
-    let f4 = next c.numbers-numbers.result 20 357 f3 (twenty c.before.before.before.before.before.before.before.before.before.before.before.before.before.before.before.before.before.before.before.before.before.before.before.before.before.before.before.before.before.before.before.before.before.before.before.before.before.before) refl c.copy32_at-4.ensures in
+    let f4 = next c.numbers-numbers.result 20 357 f3 (twenty (goal.at.returns c).After-numbers-numbers) refl c.copy32_at-4.ensures in
     let f5 = next h.cng_exc_buf_q14 320 677 f4 z.2 refl c.copy32_at-5.ensures in
     let f6 = next h.cng_synth_state 16 693 f5 z.3 refl c.copy32_at-6.ensures in
-    let f7 = next c.last_numbers-last.result 5 698 f6 (five c.before.before.before.before.before.before.before.before.before.before.before.before.before.before.before.before.before.before.before.before.before.before.before.before.before.before.before.before.before.before.before.before.before.before.before.before.before) refl c.copy32_at-7.ensures in
+    let f7 = next c.last_numbers-last.result 5 698 f6 (five (goal.at.returns c).After-last_numbers-last) refl c.copy32_at-7.ensures in
     f7.stored
     ∙ λ i.
     put_at a.words.now 0

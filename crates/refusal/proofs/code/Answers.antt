@@ -1,6 +1,5 @@
 use mathlib.Core.Path.{◌∙◌, ap}
 use native.Mathlib.Omega.{arith}
-use borrow.Author.Rules.{rules}
 use lib.IntN.{pos}
 use mir.Syntax.{w32}
 use mir.Facts.{to_z_pos}

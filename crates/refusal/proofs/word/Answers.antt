@@ -1,6 +1,4 @@
 use mathlib.Core.Path.{◌≡◌, refl}
-use native.Mathlib.Omega.{arith}
-use borrow.Author.Rules.{rules}
 use mathlib.Core.List.{List, [], ◌∷◌, map}
 use lib.ListN.{get_or}
 use Rattle.refusal.specs.Refusals.{refusal_number, refusal_word, text_of}
