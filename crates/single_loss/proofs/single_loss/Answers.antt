@@ -2,7 +2,6 @@ use Prim.Native.Nat.{ℕ, ◌≤◌}
 use mathlib.Core.Path.{◌≡◌, sym, ap, ◌∙◌, subst}
 use mathlib.Core.Bool.{Bool, true, false}
 use mathlib.Core.List.{List, map}
-use borrow.Author.Tests.{not-true, not-false}
 use lib.IntN.{ℤ, pos}
 use lib.ListN.{length, take}
 use mir.Syntax.{w32}
@@ -71,7 +70,7 @@ module _ (c : After-post_for-s) where
   lies = subst (λ (q : Recording). Inside b q.records) (sym c.read-r.ensures) (records_inside b read-well)
 
   in_range : within (pos 1) (pos 32767) c.args.limit ≡ true
-  in_range = range_is _ c.args.limit c.within.result c.within.ensures (to_z-of_z c.ranges.limit) ∙ not-false c.within.result c.if-not-within.false
+  in_range = range_is _ c.args.limit c.within.result c.within.ensures (to_z-of_z c.ranges.limit) ∙ c.if-not-within.false
 
   -- the call as recorded
   as_recorded : (t : Bool) → t ≡ passes (to_z w32 (of_z w32 c.args.limit)) (to_z w32 (of_z w32 r.rate)) (to_z w32 (of_z w32 r.subframes)) c.post_for-s.result (map (recorded_at b) (take r.frames r.records))
@@ -90,7 +89,7 @@ pub returns-then-not-within : goal.returns-then-not-within
 returns-then-not-within c =
     let b = c.args.bytes.now in
     out_of_range b (accepted b c.read-r.result c.read-r.ensures c.number.result c.number.ensures c.if-number-ne0.false) c.args.limit
-    (range_is _ c.args.limit c.within.result c.within.ensures (to_z-of_z c.ranges.limit) ∙ not-true c.within.result c.if-not-within.true)
+    (range_is _ c.args.limit c.within.result c.within.ensures (to_z-of_z c.ranges.limit) ∙ c.if-not-within.true)
 
 pub slice_bounds-passes-end : goal.slice_bounds-passes-end
 slice_bounds-passes-end c = sym (sixty (goal.at.slice_bounds-passes-end c).After-post_for-s)
