@@ -14,7 +14,7 @@ use Rattle.word.proofs.Rows.{both}
 use Rattle.edition.specs.Edition.{older, newer, is_edition}
 use Rattle.refusal.specs.First.{first_or}
 use Rattle.refusal.specs.Refusals.{refusal_number}
-use Rattle.refusal.specs.declared.Refusal.TheVariants.{Nothing, Place, Order, Line, Edition}
+use Rattle.refusal.specs.declared.Refusal.TheVariants.{Nothing, Place, Order, Edition}
 use Rattle.nlsf.specs.Lines.{negative_line}
 use Rattle.nlsf.specs.Filter.{order_refused, nlsf2a_refusal}
 use Rattle.nlsf.proofs.Lines.{nonneg_lines}

@@ -1,7 +1,7 @@
 -- The table and the cosines of lines.
 use Prim.Native.Nat.{ℕ, zero, suc, ◌-◌, ◌*◌, ◌<◌, ◌≤◌, zero-le, ◌/◌}
 use mathlib.Core.Path.{◌≡◌, refl}
-use mathlib.Core.Bool.{Bool, true, false, cond, ◌&&◌, ◌||◌}
+use mathlib.Core.Bool.{Bool, true, false, cond, ◌&&◌}
 use mathlib.Core.List.{List, [], ◌∷◌}
 use native.Mathlib.Nat.{mul-le-mul, le_antisymm, le_of_suc-le-suc, not-suc-le-zero}
 use native.Mathlib.Omega.{arith}

@@ -1,16 +1,16 @@
 -- Tests of signed words, the sign, minimum, maximum and limits.
-use Prim.Native.Nat.{ℕ, zero, suc, ◌-◌, ◌^◌, ◌<◌, ◌≤◌}
+use Prim.Native.Nat.{ℕ, ◌^◌, ◌<◌, ◌≤◌}
 use mathlib.Core.Path.{◌≡◌, refl, sym, ap, ◌∙◌}
 use mathlib.Core.Bool.{Bool, true, false, cond}
 use native.Mathlib.Omega.{arith}
 use native.Mathlib.Nat.{le_refl, not-suc-le-zero}
-use borrow.Author.Tests.{ltb-true, ltb-false, le-ltb, eq-eqb, ne_eqb, eqb-true}
+use borrow.Author.Tests.{ltb-true, ltb-false, le-ltb, eq-eqb, eqb-true}
 use lib.IntN.{ℤ, pos, negsuc, nat_abs, neg_ℤ}
 use lib.Signed.{mag, lt_z, le_z}
 use mir.Syntax.{Width, w16, w32}
-use mir.Val.{to_z, of_z, SFits, bits, hbits}
-use mir.ValLaws.{half_full, pow-bits}
-use mir.Facts.{to_z-of_z, of_z-to_z}
+use mir.Val.{to_z, of_z, SFits, hbits}
+use mir.ValLaws.{pow-bits}
+use mir.Facts.{to_z-of_z}
 use Rattle.word.specs.Int.{eq_ℤ, min_ℤ, max_ℤ, clamp, sat16, sat32}
 
 -- ---- a test of two words is one of the numbers that they hold

@@ -1,17 +1,17 @@
 -- The size of an integer, its number without the sign, and what each operation makes of it.
-use Prim.Native.Nat.{ℕ, zero, suc, ◌+◌, ◌-◌, ◌*◌, ◌/◌, ◌%◌, ◌^◌, ◌<◌, ◌≤◌}
-use mathlib.Core.Path.{◌≡◌, refl, sym, ap, ◌∙◌, subst}
+use Prim.Native.Nat.{ℕ, zero, suc, ◌+◌, ◌*◌, ◌/◌, ◌^◌, ◌<◌, ◌≤◌}
+use mathlib.Core.Path.{◌≡◌, refl}
 use mathlib.Core.Bool.{Bool, true, false, cond}
 use native.Mathlib.Omega.{arith}
-use native.Mathlib.Nat.{le_refl, le_trans, mod-lt, mod-add-div, mul-suc, mul-le-mul_left, mul-le-mul_right}
+use native.Mathlib.Nat.{le_refl, le_trans, mod-add-div, mul-suc}
 use borrow.Author.Tests.{ltb-true, ltb-false}
 use lib.Dec.{ltb}
 use lib.IntN.{ℤ, pos, negsuc, nat_abs, neg_ℤ, ◌+ℤ◌, ◌-ℤ◌, ◌*ℤ◌}
-use lib.Signed.{mag, lt_z, le_z}
-use mir.Syntax.{Width, w16, w32, w64}
+use lib.Signed.{lt_z}
+use mir.Syntax.{Width}
 use mir.Val.{SFits, hbits}
 use Rattle.word.specs.Int.{floor_div, wrap, clamp, min_ℤ}
-use Rattle.word.proofs.Parts.{P, N, add_parts, neg_parts, div_parts}
+use Rattle.word.proofs.Parts.{P, N, add_parts, div_parts}
 use Rattle.word.proofs.Words.{wrap_id, wrap-fits}
 
 pub abs-parts : (z : ℤ) → nat_abs z ≡ P z + N z

@@ -1,5 +1,5 @@
 -- Machine words and the integers modulo a power of two, over every width.
-use Prim.Native.Nat.{ℕ, zero, suc, max, ◌+◌, ◌-◌, ◌*◌, ◌/◌, ◌%◌, ◌^◌, ◌<◌, ◌≤◌}
+use Prim.Native.Nat.{ℕ, suc, ◌+◌, ◌-◌, ◌*◌, ◌/◌, ◌%◌, ◌^◌, ◌<◌, ◌≤◌}
 use mathlib.Core.Path.{◌≡◌, refl, sym, ap, ◌∙◌, subst}
 use mathlib.Core.Bool.{Bool, true, false}
 use native.Mathlib.Omega.{arith}
@@ -11,9 +11,9 @@ use lib.Dec.{T, eqb, ltb, leb, leb→le, le→leb}
 use lib.IntN.{ℤ, pos, negsuc, neg_ℤ, ◌+ℤ◌, ◌-ℤ◌, ◌*ℤ◌, +ℤ_comm, *ℤ_comm}
 use lib.Pow.{pow_pos, pow_mono, pow-add, shl_lt, shl-shr, shr_lt, split, high, low, mod-pow-add, mod-mod-pow}
 use lib.Signed.{mag, shr_z}
-use mir.Syntax.{Width, w32, w64}
+use mir.Syntax.{Width, w32}
 use mir.Val.{bits, to_z, of_z, SFits, hbits}
-use mir.ValLaws.{half_full, bits-suc}
+use mir.ValLaws.{half_full}
 use mir.Facts.{to_z_pos, to_z-of_z, sfits_to_z, sfits_widen}
 use Rattle.word.specs.Int.{eq_ℤ, mod_ℤ, floor_div, wrap}
 use Rattle.word.proofs.Mod.{mod_ℤ_lt, mod_add_l, mod_mul_l}

@@ -1,9 +1,8 @@
-use Prim.Native.Nat.{◌-◌, ◌≤◌}
 use mathlib.Core.Path.{◌≡◌, refl}
 use native.Mathlib.Nat.{le_antisymm}
 use native.Mathlib.Numerals.{add-one}
 use borrow.Author.Rules.{rules}
-use lib.IntN.{pos, nat_abs}
+use lib.IntN.{pos}
 use lib.ListN.{get_or}
 use mir.Syntax.{w16, w32}
 use mir.Val.{to_z, of_z}
@@ -14,7 +13,7 @@ use Rattle.announcement.proofs.is_rising.Goals.{After-wide16-line}
 use Rattle.announcement.proofs.is_rising.Goals as goal
 
 -- the line that a turn reads
-line : (c : After-wide16-line) →  to_z w32 (of_z w32 c.wide16-line.result) ≡ get_or c.args.nlsf.now c.loop-k.k (pos 0)
+line : (c : After-wide16-line) → to_z w32 (of_z w32 c.wide16-line.result) ≡ get_or c.args.nlsf.now c.loop-k.k (pos 0)
 line c =
     rw (got w32 c.wide16-line.type_inv c.wide16-line.ensures, kept w16 (get_or c.args.nlsf.now c.loop-k.k (pos 0)) c.wide16-arg-1.given)
 

@@ -1,15 +1,7 @@
 use Prim.Native.Nat.{◌-◌, ◌≤◌}
-use mathlib.Core.Path.{◌≡◌, refl}
-use native.Mathlib.Nat.{le_antisymm}
-use native.Mathlib.Numerals.{add-one}
-use borrow.Author.Rules.{rules}
-use lib.IntN.{pos, nat_abs}
-use lib.ListN.{get_or}
-use mir.Syntax.{w16, w32}
-use mir.Val.{to_z, of_z}
-use Rattle.word.proofs.Sizes.{fits-abs}
-use Rattle.word.proofs.Words.{kept, got}
-use Rattle.announcement.specs.Rising.{below, apart_to, rising}
+use mathlib.Core.Path.{◌≡◌}
+use lib.IntN.{nat_abs}
+use Rattle.announcement.specs.Rising.{below, apart_to}
 use Rattle.announcement.proofs.is_rising.Given as goal
 
 abbrev pub invariant-loop-k : goal.invariant-loop-k

@@ -1,14 +1,7 @@
 use Prim.Native.Nat.{◌-◌, ◌≤◌}
 use mathlib.Core.Path.{◌≡◌}
-use native.Mathlib.Nat.{le_antisymm}
-use native.Mathlib.Numerals.{add-one}
-use borrow.Author.Rules.{rules}
-use lib.IntN.{pos}
-use lib.ListN.{length, get_or}
-use mir.Syntax.{w16, w32}
-use Rattle.word.proofs.Words.{kept, got}
+use lib.ListN.{length}
 use Rattle.nlsf.specs.Lines.{cosines}
-use Rattle.nlsf.proofs.Lines.{line_nonneg}
 use Rattle.nlsf.proofs.cosines.Given as goal
 
 abbrev pub invariant-loop-k : goal.invariant-loop-k

@@ -1,4 +1,3 @@
-use borrow.Author.Rules.{rules}
 use borrow.Author.Tests.{lt-ltb, le-ltb}
 use lib.IntN.{◌+ℤ◌}
 use mir.Syntax.{w32}

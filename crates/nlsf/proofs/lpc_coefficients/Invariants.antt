@@ -1,16 +1,9 @@
 use Prim.Native.Nat.{◌-◌, ◌≤◌}
 use mathlib.Core.Path.{◌≡◌}
 use mathlib.Core.List.{◌++◌}
-use native.Mathlib.Nat.{le_antisymm}
-use native.Mathlib.Numerals.{add-one}
-use native.Mathlib.Omega.{arith}
-use borrow.Author.Rules.{rules}
 use lib.IntN.{pos}
 use lib.ListN.{length, drop, replicate}
-use mir.Syntax.{w32}
 use Rattle.word.specs.Tabulate.{tabulate}
-use Rattle.word.proofs.Lists.{tabulate-more}
-use Rattle.word.proofs.Words.{got}
 use Rattle.nlsf.specs.Lines.{lpc_coefficient}
 use Rattle.nlsf.proofs.lpc_coefficients.Given as goal
 

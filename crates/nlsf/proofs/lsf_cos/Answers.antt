@@ -1,12 +1,10 @@
 use Prim.Native.Nat.{◌-◌}
 use native.Mathlib.Omega.{arith}
-use borrow.Author.Rules.{rules}
 use borrow.Author.Tests.{lt-ltb, le-ltb}
 use mathlib.Core.Path.{◌≡◌}
-use lib.IntN.{ℤ, pos, neg_ℤ}
+use lib.IntN.{pos, neg_ℤ}
 use lib.ListN.{get_or}
 use mir.Syntax.{w16, w32}
-use Rattle.word.specs.Int.{wrap16, wrap32}
 use Rattle.word.proofs.Sizes.{abs_neg, abs-fits}
 use Rattle.word.proofs.Words.{kept, got, wrap_id}
 use Rattle.nlsf.specs.Table.{lsf_cos_half, lsf_cos}

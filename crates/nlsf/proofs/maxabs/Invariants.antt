@@ -1,12 +1,6 @@
 use Prim.Native.Nat.{◌-◌, ◌≤◌}
-use mathlib.Core.Path.{◌≡◌, refl}
-use native.Mathlib.Nat.{le_antisymm}
-use native.Mathlib.Numerals.{add-one}
-use borrow.Author.Rules.{rules}
-use lib.IntN.{pos}
-use lib.ListN.{length, get_or}
-use mir.Syntax.{w32}
-use Rattle.word.proofs.Words.{kept, got}
+use mathlib.Core.Path.{◌≡◌}
+use lib.ListN.{length}
 use Rattle.nlsf.specs.Fit.{maxabs}
 use Rattle.nlsf.proofs.maxabs.Given as goal
 

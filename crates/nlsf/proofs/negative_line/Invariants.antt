@@ -1,12 +1,5 @@
 use Prim.Native.Nat.{◌-◌, ◌≤◌}
-use mathlib.Core.Path.{◌≡◌, refl}
-use native.Mathlib.Nat.{le_antisymm}
-use native.Mathlib.Numerals.{add-one}
-use borrow.Author.Rules.{rules}
-use lib.IntN.{pos}
-use lib.ListN.{get_or}
-use mir.Syntax.{w16}
-use Rattle.word.proofs.Words.{kept}
+use mathlib.Core.Path.{◌≡◌}
 use Rattle.nlsf.specs.Lines.{negative_line}
 use Rattle.nlsf.proofs.negative_line.Given as goal
 

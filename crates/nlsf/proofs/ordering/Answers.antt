@@ -1,7 +1,6 @@
 use mathlib.Core.Path.{◌≡◌, refl}
 use mathlib.Core.Logic.{inl, inr}
 use native.Mathlib.Omega.{arith}
-use borrow.Author.Rules.{rules}
 use borrow.Author.Tests.{eq-eqb, ne_eqb}
 use Rattle.nlsf.specs.Lines.{ordering16, ordering10, ordering}
 use Rattle.nlsf.proofs.Lines.{place16_lt, place10_lt}

@@ -1,5 +1,4 @@
 use Prim.Native.Nat.{◌-◌}
-use borrow.Author.Rules.{rules}
 use lib.IntN.{pos, neg_ℤ, ◌+ℤ◌}
 use lib.ListN.{get_or}
 use mir.Syntax.{w32}

@@ -1,6 +1,5 @@
 use Prim.Native.Nat.{suc, ◌^◌}
 use native.Mathlib.Omega.{arith}
-use borrow.Author.Rules.{rules}
 use lib.IntN.{pos}
 use mir.Syntax.{w32}
 use Rattle.word.proofs.Words.{kept, got}

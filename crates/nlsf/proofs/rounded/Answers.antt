@@ -1,17 +1,14 @@
-use Prim.Native.Nat.{◌-◌, ◌≤◌}
-use mathlib.Core.Path.{◌≡◌, refl}
-use mathlib.Core.List.{◌++◌, map}
+use mathlib.Core.Path.{refl}
 use native.Mathlib.Nat.{le_antisymm}
 use native.Mathlib.Numerals.{add-one}
 use native.Mathlib.Omega.{arith}
 use borrow.Author.Rules.{rules}
-use lib.IntN.{ℤ, pos}
-use lib.ListN.{length, get_or, take, drop}
+use lib.IntN.{pos}
+use lib.ListN.{get_or}
 use mir.Syntax.{w16, w32}
-use Rattle.word.specs.Int.{wrap16}
 use Rattle.word.proofs.Words.{kept, got}
 use Rattle.stability.proofs.Sums.{take_more}
-use Rattle.nlsf.specs.Fit.{in_q12, rounded}
+use Rattle.nlsf.specs.Fit.{rounded}
 use Rattle.nlsf.proofs.Parts.{filled}
 use Rattle.nlsf.proofs.rounded.Invariants.{round}
 use Rattle.nlsf.proofs.rounded.Goals as goal

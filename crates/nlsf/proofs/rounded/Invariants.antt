@@ -1,18 +1,10 @@
 use Prim.Native.Nat.{◌-◌, ◌≤◌}
-use mathlib.Core.Path.{◌≡◌, refl}
+use mathlib.Core.Path.{◌≡◌}
 use mathlib.Core.List.{◌++◌, map}
-use native.Mathlib.Nat.{le_antisymm}
-use native.Mathlib.Numerals.{add-one}
-use native.Mathlib.Omega.{arith}
-use borrow.Author.Rules.{rules}
-use lib.IntN.{ℤ, pos}
-use lib.ListN.{length, get_or, take, drop}
-use mir.Syntax.{w16, w32}
+use lib.IntN.{ℤ}
+use lib.ListN.{length, take, drop}
 use Rattle.word.specs.Int.{wrap16}
-use Rattle.word.proofs.Words.{kept, got}
-use Rattle.stability.proofs.Sums.{take_more}
-use Rattle.nlsf.specs.Fit.{in_q12, rounded}
-use Rattle.nlsf.proofs.Parts.{filled}
+use Rattle.nlsf.specs.Fit.{in_q12}
 use Rattle.nlsf.proofs.rounded.Given as goal
 
 abbrev pub round : ℤ → ℤ

@@ -1,15 +1,14 @@
-use Prim.Native.Nat.{◌-◌, ◌<◌, ◌≤◌, ◌^◌}
+use Prim.Native.Nat.{◌<◌}
 use mathlib.Core.Path.{◌≡◌, refl, ◌∙◌}
-use mathlib.Core.List.{◌++◌, map}
+use mathlib.Core.List.{map}
 use native.Mathlib.Nat.{le_antisymm}
 use native.Mathlib.Numerals.{add-one}
 use native.Mathlib.Omega.{arith}
 use borrow.Author.Rules.{rules}
-use lib.IntN.{ℤ, pos, ◌*ℤ◌}
-use lib.ListN.{length, get_or, take, drop, length-map}
+use lib.IntN.{pos}
+use lib.ListN.{length, get_or, take, length-map}
 use lib.Seq.{length-take-le}
 use mir.Syntax.{w16, w32}
-use Rattle.word.specs.Int.{sat16}
 use Rattle.word.proofs.Words.{kept, got}
 use Rattle.stability.proofs.Sums.{take_more}
 use Rattle.nlsf.specs.Fit.{in_q12, saturated}

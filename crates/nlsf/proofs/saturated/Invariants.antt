@@ -1,19 +1,10 @@
-use Prim.Native.Nat.{◌-◌, ◌<◌, ◌≤◌, ◌^◌}
-use mathlib.Core.Path.{◌≡◌, refl, ◌∙◌}
+use Prim.Native.Nat.{◌-◌, ◌≤◌, ◌^◌}
+use mathlib.Core.Path.{◌≡◌}
 use mathlib.Core.List.{◌++◌, map}
-use native.Mathlib.Nat.{le_antisymm}
-use native.Mathlib.Numerals.{add-one}
-use native.Mathlib.Omega.{arith}
-use borrow.Author.Rules.{rules}
 use lib.IntN.{ℤ, pos, ◌*ℤ◌}
-use lib.ListN.{length, get_or, take, drop, length-map}
-use lib.Seq.{length-take-le}
-use mir.Syntax.{w16, w32}
+use lib.ListN.{length, take, drop}
 use Rattle.word.specs.Int.{sat16}
-use Rattle.word.proofs.Words.{kept, got}
-use Rattle.stability.proofs.Sums.{take_more}
-use Rattle.nlsf.specs.Fit.{in_q12, saturated}
-use Rattle.nlsf.proofs.Parts.{rest_at, filled, scaled-kept}
+use Rattle.nlsf.specs.Fit.{in_q12}
 use Rattle.nlsf.proofs.saturated.Given as goal
 
 abbrev pub near : ℤ → ℤ

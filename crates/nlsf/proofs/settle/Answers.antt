@@ -1,6 +1,5 @@
 use mathlib.Core.Path.{◌∙◌}
 use mir.Facts.{to_z-of_z}
-use borrow.Author.Rules.{rules}
 use Rattle.nlsf.proofs.settle.Goals as goal
 
 pub returns : goal.returns

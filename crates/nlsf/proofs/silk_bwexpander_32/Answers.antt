@@ -1,11 +1,11 @@
-use Prim.Native.Nat.{ℕ, ◌-◌, ◌<◌, ◌≤◌}
+use Prim.Native.Nat.{◌<◌}
 use mathlib.Core.Path.{◌≡◌, refl}
-use mathlib.Core.List.{List, ◌++◌, append-nil}
+use mathlib.Core.List.{append-nil}
 use native.Mathlib.Nat.{le_antisymm}
 use native.Mathlib.Numerals.{add-one}
 use borrow.Author.Rules.{rules}
-use lib.IntN.{ℤ, pos}
-use lib.ListN.{length, get_or, drop}
+use lib.IntN.{pos}
+use lib.ListN.{length, get_or}
 use lib.Seq.{drop-length}
 use mir.Syntax.{w32}
 use mir.Val.{to_z, of_z}
@@ -13,7 +13,6 @@ use mir.Facts.{to_z-of_z}
 use Rattle.word.specs.Tabulate.{tabulate}
 use Rattle.word.proofs.Lists.{tabulate-more, length-tabulate}
 use Rattle.word.proofs.Words.{kept, got}
-use Rattle.macros.specs.Fixed.{smulww}
 use Rattle.nlsf.specs.Expand.{factor32, bwexpander32}
 use Rattle.nlsf.proofs.Parts.{rest_at}
 use Rattle.nlsf.proofs.silk_bwexpander_32.Invariants.{expanded}

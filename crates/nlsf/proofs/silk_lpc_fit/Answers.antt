@@ -1,4 +1,3 @@
-use Prim.Native.Nat.{◌-◌, ◌≤◌}
 use mathlib.Core.Path.{◌≡◌, sym, ◌∙◌}
 use mathlib.Core.Bool.{Bool}
 use native.Mathlib.Nat.{le_antisymm}
@@ -9,7 +8,7 @@ use lib.Signed.{lt_z}
 use mir.Syntax.{w32}
 use mir.Val.{to_z, of_z}
 use Rattle.word.proofs.Words.{kept, got}
-use Rattle.nlsf.specs.Fit.{maxabs, in_q12, lpc_fit}
+use Rattle.nlsf.specs.Fit.{maxabs, in_q12}
 use Rattle.nlsf.proofs.Rounds.{length-bwexpander32, maxabs-place, fit-stops, fit-goes_on, fit_ends}
 use Rattle.nlsf.proofs.silk_lpc_fit.Goals.{After-in_q12-m}
 use Rattle.nlsf.proofs.silk_lpc_fit.Goals as goal

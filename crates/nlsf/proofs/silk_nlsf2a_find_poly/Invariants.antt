@@ -1,17 +1,9 @@
-use Prim.Native.Nat.{◌+◌, ◌-◌, ◌*◌, ◌<◌, ◌≤◌}
-use mathlib.Core.Path.{◌≡◌, sym, ◌∙◌}
-use mathlib.Core.List.{List, ◌++◌}
-use native.Mathlib.Nat.{le_antisymm}
-use native.Mathlib.Omega.{arith}
-use borrow.Author.Rules.{rules}
-use lib.IntN.{ℤ, pos}
-use lib.ListN.{length, get_or, set, take, drop, replicate, length-set, get_or-append}
-use lib.Seq.{length-take-le, length_front}
-use mir.Syntax.{w32}
-use mir.Val.{to_z, of_z}
-use Rattle.word.proofs.Words.{kept, got}
+use Prim.Native.Nat.{◌+◌, ◌-◌, ◌≤◌}
+use mathlib.Core.Path.{◌≡◌}
+use mathlib.Core.List.{◌++◌}
+use lib.IntN.{pos}
+use lib.ListN.{length, drop, replicate}
 use Rattle.nlsf.specs.Lines.{poly}
-use Rattle.nlsf.proofs.Polynomials.{length-poly, poly-turn}
 use Rattle.nlsf.proofs.silk_nlsf2a_find_poly.Given as goal
 
 abbrev pub invariant-loop-k : goal.invariant-loop-k

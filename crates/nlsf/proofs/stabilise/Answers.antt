@@ -1,22 +1,17 @@
-use Prim.Native.Nat.{◌-◌, ◌≤◌}
 use mathlib.Core.Path.{◌≡◌, sym, ◌∙◌}
 use mathlib.Core.Bool.{true, false}
-use mathlib.Core.List.{List}
 use native.Mathlib.Nat.{le_antisymm}
 use borrow.Author.Rules.{rules}
 use lib.Dec.{lit<}
-use lib.IntN.{ℤ, pos}
+use lib.IntN.{pos}
 use lib.ListN.{length}
 use lib.Seq.{take_all}
 use mir.Syntax.{w32}
-use mir.Val.{to_z}
 use mir.Facts.{to_z-of_z}
 use Rattle.word.specs.Int.{eq_ℤ}
 use Rattle.word.proofs.Order.{is, isnt}
 use Rattle.word.proofs.Words.{got}
 use Rattle.stability.specs.Stability.{stability, inverse_gain}
-use Rattle.nlsf.specs.Fit.{Fit}
-use Rattle.nlsf.specs.Filter.{stabilised}
 use Rattle.nlsf.proofs.Rounds.{rounds_stop, rounds_go_on, rounds_end}
 use Rattle.nlsf.proofs.stabilise.Invariants.{fit}
 use Rattle.nlsf.proofs.stabilise.Goals.{After-inverse_pred_gain}

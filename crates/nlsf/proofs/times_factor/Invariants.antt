@@ -1,18 +1,9 @@
-use Prim.Native.Nat.{◌+◌, ◌-◌, ◌<◌, ◌≤◌}
-use mathlib.Core.Path.{◌≡◌, refl, ◌∙◌}
+use Prim.Native.Nat.{◌+◌, ◌<◌, ◌≤◌}
+use mathlib.Core.Path.{◌≡◌}
 use mathlib.Core.List.{◌++◌}
-use native.Mathlib.Omega.{arith}
-use borrow.Author.Rules.{rules}
-use lib.IntN.{pos}
-use lib.ListN.{length, get_or, take, drop}
-use mir.Syntax.{w32}
-use mir.Val.{to_z, of_z}
-use mir.Facts.{to_z-of_z}
+use lib.ListN.{length, take, drop}
 use Rattle.word.specs.Tabulate.{tabulate}
-use Rattle.word.proofs.Words.{kept, got}
 use Rattle.nlsf.specs.Lines.{times_factor}
-use Rattle.nlsf.proofs.Parts.{back_start, back_more, back_ends, front_at}
-use Rattle.nlsf.proofs.Polynomials.{term_front}
 use Rattle.nlsf.proofs.times_factor.Given as goal
 
 abbrev pub invariant-loop-n : goal.invariant-loop-n

@@ -1,7 +1,6 @@
 use Prim.Native.Nat.{◌<◌}
 use mathlib.Core.Path.{◌≡◌, refl}
 use mathlib.Core.List.{List, [], ◌∷◌, map}
-use borrow.Author.Rules.{rules}
 use lib.Dec.{lit<}
 use lib.IntN.{pos}
 use lib.ListN.{get_or}

@@ -1,12 +1,9 @@
 use Prim.Native.Nat.{◌^◌}
-use mathlib.Core.Path.{◌≡◌, refl, ap, ◌∙◌}
-use lib.Bits.{bit_and}
+use mathlib.Core.Path.{refl, ap}
 use lib.Dec.{lit<}
-use lib.IntN.{pos, nat_abs}
+use lib.IntN.{nat_abs}
 use mir.Syntax.{w32, w64}
-use mir.Val.{to_z, of_z}
 use mir.Facts.{to_z-of_z, sfits_widen}
-use Rattle.word.specs.Int.{mod_ℤ}
 use Rattle.word.proofs.Mod.{mod_ℤ_lt}
 use Rattle.word.proofs.Words.{low_word, wide_fits}
 use Rattle.word.proofs.bits32.Goals as goal

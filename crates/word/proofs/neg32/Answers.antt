@@ -1,4 +1,3 @@
-use borrow.Author.Rules.{rules}
 use lib.IntN.{neg_ℤ, +ℤ_idl}
 use mir.Syntax.{w32}
 use mir.Facts.{to_z-of_z}

@@ -1,5 +1,4 @@
 use native.Mathlib.Omega.{arith}
-use borrow.Author.Rules.{rules}
 use mir.Syntax.{w32, w64}
 use mir.Facts.{to_z_pos}
 use Rattle.word.proofs.Words.{kept}
