@@ -26,7 +26,7 @@ shape_of-output-in_default c = c.lost.auto.output
 pub returns-in_default : goal.returns-in_default
 returns-in_default c =
     let a = c.args in
-    let was = sym c.enum_told-1.given.1 ∙ c.frame_in-f.ensures in
+    let was = sym c.in_default.is ∙ c.frame_in-f.ensures in
     c.lost.ensures ∙ λ i. answered (was i) (slices a.words.now a.halves.now a.frame.now a.coefs.now a.pulses.now a.output.now)
 
 pub shape_of-words : goal.shape_of-words
@@ -47,5 +47,5 @@ shape_of-output c = c.received.auto.output
 pub returns : goal.returns
 returns c =
     let a = c.args in
-    let was = sym c.f-1.given.1 ∙ c.frame_in-f.ensures in
+    let was = sym c.in-Received.is ∙ c.frame_in-f.ensures in
     c.received.ensures ∙ λ i. answered (was i) (slices a.words.now a.halves.now a.frame.now a.coefs.now a.pulses.now a.output.now)
