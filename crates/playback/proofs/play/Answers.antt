@@ -34,7 +34,7 @@ module _ (c : After-first-refusal) where
   refusal_is = rw (c.first-refusal.ensures, c.most.ensures, c.read-r.ensures)
 
 -- nothing is refused
-module _ (c : Else-number-ne0) where
+module _ (c : Else-number-ne0) (e : c.first-refusal.result ≡ play_refusal c.args.bytes.now (length c.args.output.now)) where
   abbrev bytes : List ℕ
   bytes = c.args.bytes.now
 
@@ -42,7 +42,7 @@ module _ (c : Else-number-ne0) where
   lent = c.args.output.now
 
   none : refusal_number (play_refusal bytes (length lent)) ≡ 0
-  none = sym (c.number.ensures ∙ ap refusal_number (refusal_is c.before.before)) ∙ c.if-number-ne0.false
+  none = sym (c.number.ensures ∙ ap refusal_number e) ∙ c.if-number-ne0.false
 
   abbrev on : List ℕ
   on = on_chain (chain_of bytes)
@@ -91,21 +91,34 @@ module _ (c : Else-number-ne0) where
 pub returns-then-number-ne0 : goal.returns-then-number-ne0
 returns-then-number-ne0 c =
     let a = c.args in
-    let e = (λ i. record { answer = record { refusal = refusal_is c.before.before i; received = 0; concealed = 0; samples = 0 }; output = a.output.now })
-    ∙ play_refused a.bytes.now a.output.now (λ e. c.if-number-ne0.true (c.number.ensures ∙ ap refusal_number (refusal_is c.before.before) ∙ e)) in
+    let w = refusal_is (goal.at.returns-then-number-ne0 c).After-first-refusal in
+    let e = (λ i. record { answer = record { refusal = w i; received = 0; concealed = 0; samples = 0 }; output = a.output.now })
+    ∙ play_refused a.bytes.now a.output.now (λ f. c.if-number-ne0.true (c.number.ensures ∙ ap refusal_number w ∙ f)) in
     (e, lit≤ tt)
 
 pub slice_bounds-play_frames-end : goal.slice_bounds-play_frames-end
-slice_bounds-play_frames-end c = let n = long c.before.before.before.before.before.before in search rules
+slice_bounds-play_frames-end c =
+    let p = goal.at.slice_bounds-play_frames-end c in
+    let n = long p.Else-number-ne0 (refusal_is p.After-first-refusal) in
+    search rules
 
 pub play_frames-samples-requires : goal.play_frames-samples-requires
-play_frames-samples-requires c = (few c.before.before.before.before.before.before.before, in_bytes c.before.before.before.before.before.before.before, room_for c.before.before.before.before.before.before.before)
+play_frames-samples-requires c =
+    let p = goal.at.play_frames-samples-requires c in
+    let e = refusal_is p.After-first-refusal in
+    (few p.Else-number-ne0 e, in_bytes p.Else-number-ne0 e, room_for p.Else-number-ne0 e)
 
 pub slice_bounds-received_in-end : goal.slice_bounds-received_in-end
-slice_bounds-received_in-end c = let n = long c.before.before.before.before.before.before.before.before.before.before in search rules
+slice_bounds-received_in-end c =
+    let p = goal.at.slice_bounds-received_in-end c in
+    let n = long p.Else-number-ne0 (refusal_is p.After-first-refusal) in
+    search rules
 
 pub received_in-received-requires : goal.received_in-received-requires
-received_in-received-requires c = (few c.before.before.before.before.before.before.before.before.before.before, in_bytes c.before.before.before.before.before.before.before.before.before.before)
+received_in-received-requires c =
+    let p = goal.at.received_in-received-requires c in
+    let e = refusal_is p.After-first-refusal in
+    (few p.Else-number-ne0 e, in_bytes p.Else-number-ne0 e)
 
 pub overflow_sub-result : goal.overflow_sub-result
 overflow_sub-result c = let h = c.received_in-received.ensures.1 in search rules
@@ -113,15 +126,16 @@ overflow_sub-result c = let h = c.received_in-received.ensures.1 in search rules
 pub returns : goal.returns
 unfolding played_samples frames_in
 returns c =
-    let b = bytes c.before.before.before.before.before.before.before.before.before.before.before in
-    let r = rate_is c.before.before.before.before.before.before.before.before.before.before.before in
-    let n = count_is c.before.before.before.before.before.before.before.before.before.before.before in
+    let p = (goal.at.returns c).Else-number-ne0 in
+    let e = refusal_is (goal.at.returns c).After-first-refusal in
+    let b = c.args.bytes.now in
+    let r = rate_is p e in
+    let n = count_is p e in
     let s = c.set_up_with-made.ensures ∙ (λ i. set_up_with (r i) (n i) plain) in
-    let xs = map (recorded_at b) (on c.before.before.before.before.before.before.before.before.before.before.before) in
-    let k = c.received_in-received.ensures.0 ∙ ap (λ (ks : List ℕ). received_in (map (recorded_at b) ks)) (first-are c.before.before.before.before.before.before.before.before.before.before.before) in
-    let f = frames_are c.before.before.before.before.before.before.before.before.before.before.before ∙ sym (length-frames b) in
-    let m = c.play_frames-samples.ensures.0 ∙ (λ i. length (samples_from (r i) (n i) (s i).state (map (recorded_at b) (first-are c.before.before.before.before.before.before.before.before.before.before.before i)))) in
-    let o = c.play_frames-samples.ensures.1 ∙ (λ i. samples_from (r i) (n i) (s i).state (map (recorded_at b) (first-are c.before.before.before.before.before.before.before.before.before.before.before i)) ++ drop (m i) (lent c.before.before.before.before.before.before.before.before.before.before.before)) in
-    let w = (λ i. record { answer = record { refusal = refusal_is c.before.before.before.before.before.before.before.before.before.before.before.before.before i; received = k i; concealed = f i - k i; samples = m i }; output = o i })
-    ∙ play_accepted b (lent c.before.before.before.before.before.before.before.before.before.before.before) (none c.before.before.before.before.before.before.before.before.before.before.before) in
-    (w, omega (arith, c.play_frames-samples.ensures.2, frames_are c.before.before.before.before.before.before.before.before.before.before.before, few-frames b (rows c.before.before.before.before.before.before.before.before.before.before.before).whole))
+    let k = c.received_in-received.ensures.0 ∙ ap (λ (ks : List ℕ). received_in (map (recorded_at b) ks)) (first-are p e) in
+    let f = frames_are p e ∙ sym (length-frames b) in
+    let m = c.play_frames-samples.ensures.0 ∙ (λ i. length (samples_from (r i) (n i) (s i).state (map (recorded_at b) (first-are p e i)))) in
+    let o = c.play_frames-samples.ensures.1 ∙ (λ i. samples_from (r i) (n i) (s i).state (map (recorded_at b) (first-are p e i)) ++ drop (m i) c.args.output.now) in
+    let w = (λ i. record { answer = record { refusal = e i; received = k i; concealed = f i - k i; samples = m i }; output = o i })
+    ∙ play_accepted b c.args.output.now (none p e) in
+    (w, omega (arith, c.play_frames-samples.ensures.2, frames_are p e, few-frames b (rows p e).whole))

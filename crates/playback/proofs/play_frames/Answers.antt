@@ -14,7 +14,7 @@ use Rattle.shape.specs.Shape.{shape, frame_length}
 use Rattle.shape.proofs.Shapes.{frame_le}
 use Rattle.playback.proofs.Frames.{Played, none-played, one_more, all_count, all_played}
 use borrow.Author.Rules.{rules}
-use Rattle.playback.proofs.play_frames.Goals.{After-samples-in-loop-k-1, After-sound_at-t, In-loop-k}
+use Rattle.playback.proofs.play_frames.Goals.{After-sound_at-t, In-loop-k}
 use Rattle.playback.proofs.play_frames.Goals as goal
 
 -- the room for one frame more
@@ -28,10 +28,6 @@ room c =
 samples_320 : (c : After-sound_at-t) → length c.sound_at-t.result.samples ≡ 320
 samples_320 c = search rules
 
--- the frame's part of the samples
-part-long : (c : After-samples-in-loop-k-1) → length (take c.frame_length-size.result c.sound_at-t.result.samples) ≡ c.frame_length-size.result
-part-long c = length-take-le c.frame_length-size.result c.sound_at-t.result.samples (rw (samples_320 c.before.before.before.before) c.loop-k.invariant.4)
-
 pub loop-k-init : goal.loop-k-init
 loop-k-init c =
     let a = c.args in
@@ -42,16 +38,16 @@ pub sound_at-t-requires : goal.sound_at-t-requires
 sound_at-t-requires c = (c.wide8.ensures.1, rw c.wide8.ensures.0 (c.requires.1 c.loop-k.k))
 
 pub slice_bounds-samples-end : goal.slice_bounds-samples-end
-slice_bounds-samples-end c = rw (samples_320 c.before.before.before) c.loop-k.invariant.4
+slice_bounds-samples-end c = rw (samples_320 (goal.at.slice_bounds-samples-end c).After-sound_at-t) c.loop-k.invariant.4
 
 pub slice_bounds-copy16_at-end : goal.slice_bounds-copy16_at-end
-slice_bounds-copy16_at-end c = sym (part-long c)
+slice_bounds-copy16_at-end c = sym (length-take-le c.frame_length-size.result c.sound_at-t.result.samples (rw (samples_320 (goal.at.slice_bounds-copy16_at-end c).After-sound_at-t) c.loop-k.invariant.4))
 
 pub copy16_at-requires : goal.copy16_at-requires
-copy16_at-requires c = let h = room c.before.before.before.before.before.before.before in rw (part-long c) h
+copy16_at-requires c = let h = room (goal.at.copy16_at-requires c).In-loop-k in rw (length-take-le c.frame_length-size.result c.sound_at-t.result.samples (rw (samples_320 (goal.at.copy16_at-requires c).After-sound_at-t) c.loop-k.invariant.4)) h
 
 pub overflow_add-at : goal.overflow_add-at
-overflow_add-at c = let i = c.loop-k.invariant in let h : c.loop-k.at + c.frame_length-size.result ≤ length c.args.output.now = omega (arith, room c.before.before.before.before.before.before.before.before.before, i.2) in let g = c.well-formed.1.1.1.1.1.1.0.0 in record { fits = omega (arith, h, g) }
+overflow_add-at c = let i = c.loop-k.invariant in let h : c.loop-k.at + c.frame_length-size.result ≤ length c.args.output.now = omega (arith, room (goal.at.overflow_add-at c).In-loop-k, i.2) in let g = c.well_formed.1.1.1.1.1.1.0.0 in record { fits = omega (arith, h, g) }
 
 pub loop-k-preserved : goal.loop-k-preserved
 loop-k-preserved c =
@@ -60,7 +56,7 @@ loop-k-preserved c =
     let m = c.frame_length-size.result in
     let k : length (put_at c.loop-k.output c.loop-k.at (take m c.sound_at-t.result.samples)) ≡ length c.loop-k.output = sym (ap length c.copy16_at.ensures) ∙ c.copy16_at.auto.0 in
     let q = c.sound_at-t.ensures ∙ ap (λ (j : ℕ). sound_of c.loop-k.state (call_of (to_z w32 (of_z w32 a.rate)) (to_z w32 (of_z w32 a.subframes)) (recorded_at a.bytes.now j))) c.wide8.ensures.0 in
-    let p = one_more (to_z w32 (of_z w32 a.rate)) (to_z w32 (of_z w32 a.subframes)) a.s a.bytes.now a.records.now a.n a.output.now c.loop-k.output c.loop-k.state c.loop-k.at c.loop-k.k m c.sound_at-t.result.samples c.requires.0 c.loop-k-test.true i.3 i.4 (samples_320 c.before.before.before.before.before.before) (room c.before.before.before.before.before.before.before.before.before) i.5 c.sound_at-t.result.state q k in (
+    let p = one_more (to_z w32 (of_z w32 a.rate)) (to_z w32 (of_z w32 a.subframes)) a.s a.bytes.now a.records.now a.n a.output.now c.loop-k.output c.loop-k.state c.loop-k.at c.loop-k.k m c.sound_at-t.result.samples c.requires.0 c.loop-k-test.true i.3 i.4 (samples_320 (goal.at.loop-k-preserved c).After-sound_at-t) (room (goal.at.loop-k-preserved c).In-loop-k) i.5 c.sound_at-t.result.state q k in (
       search rules,
       omega (arith, i.1, i.4),
       ap length c.copy16_at.ensures ∙ k ∙ i.2,
