@@ -1,6 +1,6 @@
 -- The writer's answers, and the bytes that it stores.
-use Prim.Native.Nat.{ℕ, zero, suc, ◌+◌, ◌*◌, ◌≤◌, ◌<◌}
-use mathlib.Core.Path.{◌≡◌, refl, sym, ap, ◌∙◌}
+use Prim.Native.Nat.{ℕ, zero, suc, ◌+◌, ◌*◌, ◌≤◌}
+use mathlib.Core.Path.{◌≡◌, refl, ap, ◌∙◌}
 use mathlib.Core.Bool.{Bool, true, false, not, ◌&&◌, false≢true}
 use mathlib.Core.List.{List, [], ◌∷◌, ◌++◌}
 use native.Mathlib.Omega.{arith}
@@ -24,7 +24,7 @@ use Rattle.decoder.specs.declared.SilkDecoderControl.{SilkDecoderControl}
 use Rattle.record.specs.Recorded.{Recorded, lost, received, small_bytes, record_bytes}
 use Rattle.record.proofs.Parts.{length_record}
 use Rattle.recording.specs.Frames.{described}
-use Rattle.recorder.specs.Writing.{Left, left, head_bytes, frame_bytes, has_room, has_pulses, head_rows, append_refusal}
+use Rattle.recorder.specs.Writing.{left, head_bytes, frame_bytes, has_room, has_pulses, head_rows, append_refusal}
 
 module _ (r : Refusal) (new old : List ℕ) where
   pub left-refused : (refusal_number r ≡ 0 → ⊥) → record { refusal = r; bytes = old } ≡ left r new old

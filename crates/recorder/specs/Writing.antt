@@ -6,7 +6,7 @@ use Rattle.refusal.specs.First.{Row, ◌gives◌, first_or, first_of}
 use Rattle.refusal.specs.Letters.{letters}
 use Rattle.refusal.specs.Refusals.{if_accepted}
 use Rattle.refusal.specs.declared.Refusal.{Refusal}
-use Rattle.refusal.specs.declared.Refusal.TheVariants.{Nothing, Rate, Size, Record}
+use Rattle.refusal.specs.declared.Refusal.TheVariants.{Rate, Size, Record}
 use Rattle.shape.specs.Shape.{shape, is_rate, is_count}
 use Rattle.record.specs.Recorded.{Recorded, lost, received, record_bytes}
 use Rattle.recording.specs.Frames.{is_head, rate_in, count_in, described}

@@ -1,25 +1,23 @@
 -- A recording as it is written is read: its chain, its records and its frames.
-use Prim.Native.Nat.{ℕ, zero, suc, ◌+◌, ◌-◌, ◌*◌, ◌/◌, ◌%◌, ◌^◌, ◌≤◌, ◌<◌}
-use mathlib.Core.Path.{◌≡◌, refl, sym, ap, ◌∙◌, subst}
-use mathlib.Core.Bool.{Bool, true, false, not, cond, ◌&&◌, ◌||◌}
+use Prim.Native.Nat.{ℕ, suc, ◌+◌, ◌-◌, ◌*◌, ◌/◌, ◌%◌, ◌≤◌, ◌<◌}
+use mathlib.Core.Path.{◌≡◌, refl, sym, ap, ◌∙◌}
+use mathlib.Core.Bool.{true, false, not, ◌&&◌}
 use mathlib.Core.List.{List, [], ◌∷◌, ◌++◌, append_assoc, append-nil, map}
 use native.Mathlib.Omega.{arith}
 use native.Mathlib.Nat.{mod-eq_of_lt}
-use borrow.Author.Tests.{eq-eqb, ne_eqb, lt-ltb, le-leb}
-use lib.Dec.{eqb}
+use borrow.Author.Tests.{ne_eqb, lt-ltb, le-leb}
 use lib.IntN.{ℤ, pos}
-use lib.ListN.{length, get_or, take, drop, replicate, length-append, replicate-append-replicate}
-use lib.Seq.{drop-drop, drop_at, take_at, get_or-drop, append_snoc, take-length}
+use lib.ListN.{length, get_or, take, drop, replicate, replicate-append-replicate}
+use lib.Seq.{drop-drop, drop_at, take_at, get_or-drop, append_snoc}
 use Rattle.le.specs.Bytes.{bytes_of, number_of, unsigned_at, joined}
 use Rattle.le.proofs.Numbers.{number_of-bytes}
-use Rattle.refusal.specs.First.{◌gives◌, first_or, first_of, earlier}
+use Rattle.refusal.specs.First.{◌gives◌, earlier}
 use Rattle.refusal.specs.Refusals.{refusal_number}
-use Rattle.refusal.specs.declared.Refusal.{Refusal}
-use Rattle.refusal.specs.declared.Refusal.TheVariants.{Nothing, Rate, Size, Record, Chain}
+use Rattle.refusal.specs.declared.Refusal.TheVariants.{Rate, Size, Record, Chain}
 use Rattle.refusal.proofs.Clear.{passed}
 use Rattle.shape.specs.Shape.{Shape, shape, is_rate, is_count}
-use Rattle.decoder.specs.Signals.{signal_number, signal_of, is_type, is_voiced}
-use Rattle.judge.specs.Rows.{signal_row, gain_row, lag_row, taps_row, line_row, description_rows}
+use Rattle.decoder.specs.Signals.{signal_number, is_type, is_voiced}
+use Rattle.judge.specs.Rows.{signal_row, lag_row, taps_row}
 use Rattle.record.specs.Recorded.{Recorded, lost, received, recorded_in, record_bytes}
 use Rattle.record.specs.Claims.{TypedRecorded, by_number}
 use Rattle.record.proofs.Parts.{length_record}
@@ -28,12 +26,12 @@ use Rattle.record.proofs.Ways as ways
 use Rattle.chain.specs.Chain.{is_whole, records_in, next_of, is_among, through, chain_from, chain_of, is_broken, on_chain}
 use Rattle.chain.proofs.Chains.{among_snoc}
 use Rattle.chain.proofs.Steps.{step_end, step-on}
-use Rattle.recording.specs.Frames.{zeros, is_head, rate_in, count_in, is_frame, are_frames, recorded_at, frames_in, described, described_all}
+use Rattle.recording.specs.Frames.{is_head, rate_in, count_in, is_frame, are_frames, recorded_at, frames_in, described, described_all}
 use Rattle.recording.specs.Reading.{read_refusal}
 use Rattle.recorder.specs.Writing.{head_bytes, frame_bytes, link_to, frames_to, recording_to, recording_bytes}
 use Rattle.round_trip.specs.Claims.{up_from, size, All, write_of, WrittenIsRead}
 use Rattle.round_trip.proofs.Records.{frame_rest, head_rest, frame-parts, length-frame, length_head, length_recording, recording_parts}
-use Rattle.round_trip.proofs.Writes.{zeros-at, head_is, rate_is, count_is, Written, written}
+use Rattle.round_trip.proofs.Writes.{zeros-at, head_is, rate_is, count_is, written}
 
 -- the number that a record begins with
 next-is : (b : List ℕ) (i k : ℕ) (q : List ℕ) → k < 65536 → drop (1024 * i) b ≡ bytes_of 2 (pos k) ++ q → next_of b i ≡ k

@@ -1,11 +1,10 @@
 -- The records of a recording as it is written.
-use Prim.Native.Nat.{ℕ, zero, suc, ◌+◌, ◌*◌, ◌≤◌, ◌<◌}
+use Prim.Native.Nat.{ℕ, suc, ◌+◌, ◌*◌, ◌≤◌}
 use mathlib.Core.Path.{◌≡◌, refl, sym, ap, ◌∙◌}
 use mathlib.Core.List.{List, [], ◌∷◌, ◌++◌, append_assoc, append-nil}
 use native.Mathlib.Omega.{arith}
 use lib.IntN.{ℤ, pos}
-use lib.ListN.{length, take, drop, replicate, length-append, length-replicate}
-use lib.Seq.{drop_at}
+use lib.ListN.{length, drop, replicate, length-append, length-replicate}
 use Rattle.le.specs.Bytes.{bytes_of, with_bytes}
 use Rattle.le.proofs.Places.{with-front}
 use Rattle.refusal.specs.Letters.{letters}

@@ -1,22 +1,20 @@
 -- What appends in order leave, and what they take.
-use Prim.Native.Nat.{ℕ, zero, suc, ◌+◌, ◌*◌, ◌≤◌, ◌<◌, ◌%◌, ◌/◌}
-use mathlib.Core.Path.{◌≡◌, refl, sym, ap, ◌∙◌, subst}
+use Prim.Native.Nat.{ℕ, zero, suc, ◌+◌, ◌*◌, ◌≤◌, ◌<◌}
+use mathlib.Core.Path.{◌≡◌, refl, sym, ap, ◌∙◌}
 use mathlib.Core.Bool.{Bool, true, false, not, cond, ◌&&◌, false≢true}
-use mathlib.Core.List.{List, [], ◌∷◌, ◌++◌, append_assoc, append-nil, map}
+use mathlib.Core.List.{List, [], ◌∷◌, ◌++◌, append_assoc, append-nil}
 use native.Mathlib.Omega.{arith}
-use borrow.Author.Tests.{eqb-true, eqb-false, eq-eqb, le-leb, le-ltb, ltb-false, leb-true, not-true, not-false}
+use borrow.Author.Tests.{eqb-true, eq-eqb, le-leb, le-ltb, ltb-false, not-false}
 use lib.Dec.{eqb, leb, ltb}
 use lib.IntN.{ℤ, pos}
-use lib.ListN.{length, get_or, take, drop, replicate, length-append, length-drop, length-replicate, get_or-replicate, get_or-append}
+use lib.ListN.{length, get_or, drop, replicate, length-append, length-drop, length-replicate, get_or-replicate, get_or-append}
 use lib.Seq.{drop-drop, get_or-drop, append_snoc}
 use Rattle.word.specs.Int.{eq_ℤ, mod_ℤ}
 use Rattle.word.proofs.Order.{eq_ℤ_refl}
 use native.Mathlib.Nat.{mod-eq_of_lt}
 use Rattle.le.specs.Bytes.{bytes_of, with_bytes, same}
-use Rattle.refusal.specs.First.{Row, ◌gives◌, first_or, first_of, earlier}
-use Rattle.refusal.specs.Letters.{letters}
-use Rattle.refusal.specs.Refusals.{refusal_number, if_accepted}
-use Rattle.refusal.specs.declared.Refusal.{Refusal}
+use Rattle.refusal.specs.First.{◌gives◌}
+use Rattle.refusal.specs.Refusals.{refusal_number}
 use Rattle.refusal.specs.declared.Refusal.TheVariants.{Nothing, Rate, Size, Record}
 use Rattle.refusal.proofs.Clear.{clear, passed}
 use Rattle.refusal.proofs.Earliest.{one_of_two, earlier-clear}
@@ -25,7 +23,7 @@ use Rattle.shape.proofs.Shapes.{rate_kept, count_kept, rate_le, count_le}
 use Rattle.record.specs.Recorded.{Recorded}
 use Rattle.recording.specs.Frames.{zeros, is_head, rate_in, count_in, described, described_all}
 use Rattle.recorder.specs.Writing.{Left, head_bytes, frames_to, link_to, recording_to, recording_bytes, begin_refusal, begin_of, has_pulses, has_room, head_rows, append_refusal, appended, append_of}
-use Rattle.recorder.proofs.Laws.{Room, room}
+use Rattle.recorder.proofs.Laws.{room}
 use Rattle.round_trip.specs.Claims.{appends_of, write_of, size, All, InOrder, WriterTakes}
 use Rattle.round_trip.proofs.Records.{head_rest, length_recording, recording_parts, appended-more, with-start, length_head}
 

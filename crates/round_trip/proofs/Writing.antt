@@ -1,5 +1,5 @@
 -- A recording that is read in order is written as the same bytes.
-use Prim.Native.Nat.{ℕ, zero, suc, ◌+◌, ◌-◌, ◌*◌, ◌/◌, ◌%◌, ◌≤◌, ◌<◌}
+use Prim.Native.Nat.{ℕ, zero, suc, ◌+◌, ◌-◌, ◌*◌, ◌/◌, ◌≤◌, ◌<◌}
 use mathlib.Core.Path.{◌≡◌, refl, sym, ap, ◌∙◌, subst}
 use mathlib.Core.Bool.{Bool, true, false, cond, ◌&&◌, ◌||◌, false≢true}
 use mathlib.Core.List.{List, [], ◌∷◌, ◌++◌, append_assoc, append-nil, map}
@@ -7,18 +7,17 @@ use native.Mathlib.Omega.{arith}
 use native.Mathlib.Nat.{mod-eq_of_lt}
 use borrow.Author.Tests.{eqb-true, ltb-true, ltb-false}
 use lib.Dec.{eqb, ltb, leb}
-use lib.IntN.{ℤ, pos}
+use lib.IntN.{pos}
 use lib.ListN.{length, get_or, take, drop, replicate, length-append, length-drop, length-replicate, get_or-replicate, take-append-drop, drop_of_length-le, replicate-append-replicate, get_or-append}
 use lib.Seq.{drop-drop, take-add, take-suc, drop-cons, get_or-take, get_or-drop, get_or-append_seam, length-take-le, ext_get_or, take_all, append_snoc}
-use Rattle.word.specs.Int.{mod_ℤ}
 use Rattle.le.specs.Bytes.{Bytes, bytes_of, number_of, unsigned_at, same}
 use Rattle.le.proofs.Numbers.{bytes_of-number}
 use Rattle.le.proofs.Packing.{drop-bytes, take-bytes}
 use Rattle.refusal.specs.Letters.{letters}
 use Rattle.record.specs.Recorded.{Recorded, recorded_in, record_bytes}
 use Rattle.record.proofs.Ways.{read_is_written}
-use Rattle.chain.specs.Chain.{is_whole, records_in, next_of, is_among, Chain, through, broken, chain_from, chain_of, is_broken, on_chain}
-use Rattle.chain.proofs.Steps.{Whole, whole}
+use Rattle.chain.specs.Chain.{records_in, next_of, is_among, Chain, through, broken, chain_from, chain_of, is_broken, on_chain}
+use Rattle.chain.proofs.Steps.{whole}
 use Rattle.recording.specs.Frames.{zeros, is_head, rate_in, count_in, is_frame, are_frames, recorded_at, frames_in}
 use Rattle.recording.proofs.Answers.{rows-clear}
 use Rattle.recorder.specs.Writing.{head_bytes, frame_bytes, link_to, frames_to, recording_to, recording_bytes}

@@ -54,7 +54,7 @@ loop-k-preserved c =
     let i = c.loop-k.invariant in
     let a = c.args in
     let m = c.frame_length-size.result in
-    let k : length (put_at c.loop-k.output c.loop-k.at (take m c.sound_at-t.result.samples)) ≡ length c.loop-k.output = sym (ap length c.copy16_at.ensures) ∙ c.copy16_at.auto.0 in
+    let k : length (put_at c.loop-k.output c.loop-k.at (take m c.sound_at-t.result.samples)) ≡ length c.loop-k.output = sym (ap length c.copy16_at.ensures) ∙ c.copy16_at.auto.dst in
     let q = c.sound_at-t.ensures ∙ ap (λ (j : ℕ). sound_of c.loop-k.state (call_of (to_z w32 (of_z w32 a.rate)) (to_z w32 (of_z w32 a.subframes)) (recorded_at a.bytes.now j))) c.wide8.ensures.0 in
     let p = one_more (to_z w32 (of_z w32 a.rate)) (to_z w32 (of_z w32 a.subframes)) a.s a.bytes.now a.records.now a.n a.output.now c.loop-k.output c.loop-k.state c.loop-k.at c.loop-k.k m c.sound_at-t.result.samples c.requires.0 c.loop-k-test.true i.3 i.4 (samples_320 (goal.at.loop-k-preserved c).After-sound_at-t) (room (goal.at.loop-k-preserved c).In-loop-k) i.5 c.sound_at-t.result.state q k in (
       search rules,

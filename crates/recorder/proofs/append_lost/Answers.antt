@@ -1,19 +1,15 @@
-use Prim.Native.Nat.{ℕ, suc, ◌+◌, ◌*◌, ◌≤◌}
+use Prim.Native.Nat.{suc, ◌+◌, ◌*◌}
 use mathlib.Core.Path.{◌≡◌, refl, sym, ap, ◌∙◌}
-use mathlib.Core.Bool.{true}
-use mathlib.Core.List.{List}
 use native.Mathlib.Omega.{arith}
-use native.Mathlib.Numerals.{add-one}
-use lib.IntN.{ℤ, pos}
-use lib.ListN.{length, replicate}
+use lib.ListN.{length}
 use mir.Facts.{to_z-of_z}
-use Rattle.le.specs.Bytes.{bytes_of, with_bytes}
+use Rattle.le.specs.Bytes.{with_bytes}
 use Rattle.refusal.specs.First.{first_or}
 use Rattle.refusal.specs.Refusals.{refusal_number}
-use Rattle.refusal.specs.declared.Refusal.TheVariants.{Nothing, Record}
+use Rattle.refusal.specs.declared.Refusal.TheVariants.{Nothing}
 use Rattle.record.specs.Recorded.{lost}
 use Rattle.recording.specs.Frames.{described}
-use Rattle.recorder.specs.Writing.{has_room, has_pulses, head_rows, append_refusal, appended, append_of}
+use Rattle.recorder.specs.Writing.{has_pulses, head_rows, append_refusal, appended, append_of}
 use Rattle.recorder.proofs.Laws.{left-refused, left-accepted, Room, room, no_room, by_head, lost_record}
 use borrow.Author.Rules.{rules}
 use Rattle.recorder.proofs.append_lost.Goals.{After-head_rows-refusal, Else-not-has_room}

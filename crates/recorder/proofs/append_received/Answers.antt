@@ -1,6 +1,5 @@
-use Prim.Native.Nat.{ℕ, suc, ◌+◌, ◌*◌, ◌≤◌}
+use Prim.Native.Nat.{suc, ◌+◌, ◌*◌}
 use mathlib.Core.Path.{◌≡◌, sym, ap, ◌∙◌}
-use mathlib.Core.Bool.{true}
 use native.Mathlib.Omega.{arith}
 use borrow.Author.Tests.{le-leb, lt-leb}
 use lib.ListN.{length}
@@ -10,9 +9,9 @@ use Rattle.refusal.specs.First.{first_or, first_of}
 use Rattle.refusal.specs.Refusals.{refusal_number}
 use Rattle.shape.specs.Shape.{shape}
 use Rattle.judge.specs.Rows.{description_rows}
-use Rattle.record.specs.Recorded.{Recorded, received}
+use Rattle.record.specs.Recorded.{received}
 use Rattle.recording.specs.Frames.{described}
-use Rattle.recorder.specs.Writing.{frame_bytes, has_room, has_pulses, head_rows, append_refusal, appended, append_of}
+use Rattle.recorder.specs.Writing.{frame_bytes, has_pulses, head_rows, append_refusal, appended, append_of}
 use Rattle.recorder.proofs.Laws.{left-refused, left-accepted, Room, room, no_room, no_pulses, by_head}
 use borrow.Author.Rules.{rules}
 use Rattle.recorder.proofs.append_received.Goals.{After-head_rows-refusal, Else-not-has_room}

@@ -2,7 +2,6 @@ use Prim.Native.Nat.{ℕ, ◌≤◌}
 use mathlib.Core.Path.{◌≡◌, refl, sym, ap, ◌∙◌}
 use mathlib.Core.Bool.{not}
 use mathlib.Core.List.{List, [], ◌∷◌}
-use native.Mathlib.Omega.{arith}
 use borrow.Author.Tests.{ltb-false}
 use lib.Dec.{ltb}
 use lib.ListN.{length}
@@ -16,7 +15,6 @@ use Rattle.refusal.proofs.Clear.{clear}
 use Rattle.shape.specs.Shape.{is_rate, is_count}
 use Rattle.recorder.specs.Writing.{head_bytes, begin_refusal, begin_of}
 use Rattle.recorder.proofs.Laws.{left-refused, left-accepted}
-use borrow.Author.Rules.{rules}
 use Rattle.recorder.proofs.begin.Goals.{After-first-refusal}
 use Rattle.recorder.proofs.begin.Goals as goal
 

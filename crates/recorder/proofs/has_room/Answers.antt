@@ -2,7 +2,6 @@ use Prim.Native.Nat.{◌+◌}
 use native.Mathlib.Omega.{arith}
 use borrow.Author.Tests.{le-leb, lt-leb}
 use Rattle.recorder.specs.Writing.{has_room}
-use borrow.Author.Rules.{rules}
 use Rattle.recorder.proofs.has_room.Goals as goal
 
 pub returns-then-frames-gt58 : goal.returns-then-frames-gt58

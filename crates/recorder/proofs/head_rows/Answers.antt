@@ -2,7 +2,6 @@ use mir.Facts.{to_z-of_z}
 use mir.Syntax.{w32}
 use Rattle.word.proofs.Words.{kept}
 use Rattle.refusal.specs.First.{first_or}
-use borrow.Author.Rules.{rules}
 use Rattle.recorder.proofs.head_rows.Goals as goal
 
 pub returns : goal.returns

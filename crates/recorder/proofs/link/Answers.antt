@@ -4,7 +4,7 @@ use mathlib.Core.List.{[], ◌∷◌}
 use native.Mathlib.Omega.{arith}
 use lib.ListN.{length}
 use Rattle.le.specs.Bytes.{with_bytes}
-use Rattle.recorder.proofs.Laws.{Room, room}
+use Rattle.recorder.proofs.Laws.{room}
 use borrow.Author.Rules.{rules}
 use Rattle.recorder.proofs.link.Goals as goal
 

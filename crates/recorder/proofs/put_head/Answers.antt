@@ -1,5 +1,5 @@
 use Prim.Native.Nat.{ℕ}
-use mathlib.Core.Path.{◌≡◌, ap, ◌∙◌}
+use mathlib.Core.Path.{ap, ◌∙◌}
 use mathlib.Core.List.{List, [], ◌∷◌}
 use lib.IntN.{ℤ}
 use lib.ListN.{replicate}
@@ -8,7 +8,6 @@ use Rattle.word.specs.Int.{mod_ℤ}
 use Rattle.le.specs.Bytes.{with_bytes}
 use Rattle.refusal.specs.Letters.{letters}
 use Rattle.recorder.proofs.Laws.{put_head}
-use borrow.Author.Rules.{rules}
 use Rattle.recorder.proofs.put_head.Goals as goal
 
 pub returns : goal.returns
