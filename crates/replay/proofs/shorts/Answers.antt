@@ -21,7 +21,7 @@ loop-i-init c = (search rules, search rules, refl)
 
 pub loop-i-preserved : goal.loop-i-preserved
 loop-i-preserved c =
-    let row = c.args.t1 in (
+    let row = c.args.row in (
       search rules,
       search rules,
       rw (kept w16 _ c.low16.type_inv, c.low16.ensures, kept w32 _ c.low16-arg-1.given, c.loop-i.invariant.2, add-one)

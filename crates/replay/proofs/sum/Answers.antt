@@ -5,7 +5,7 @@ use borrow.Author.Rules.{rules}
 use Rattle.replay.proofs.sum.Goals as goal
 
 pub slice_bounds-sum32-end-3 : goal.slice_bounds-sum32-end-3
-slice_bounds-sum32-end-3 c = search (rules, c.well-formed)
+slice_bounds-sum32-end-3 c = search (rules, c.well_formed)
 
 pub returns : goal.returns
 unfolding sum_all

@@ -1,0 +1,25 @@
+use mathlib.Core.Path.{◌∙◌}
+use mir.Facts.{to_z-of_z}
+use mir.Syntax.{w16}
+use Rattle.le.specs.Bytes.{packed}
+use Rattle.decode_frame.specs.Call.{frame_call}
+use Rattle.decode_frame.specs.Answer.{frame_answer, frame_output}
+use Rattle.play.specs.Play.{answer, sound_of}
+use Rattle.play.proofs.played.Goals as goal
+
+pub returns : goal.returns
+unfolding answer sound_of
+returns c =
+    let s = c.args.s in
+    let h = to_z-of_z c.ranges.rate in
+    let n = to_z-of_z c.ranges.subframes in
+    let f = c.frame_in-frame.ensures in
+    let k = c.control_in-c.ensures in
+    let r = c.rows_in-rows.ensures in
+    let l = c.lines_in-lines.ensures in
+    let p = c.pulses_in-pulses.ensures in
+    let q = c.silence-xq.ensures in
+    let a = c.silk_decode_frame-a.ensures.0 ∙ λ i. frame_answer s (frame_call (h i) (n i) (f i) (k i) (r i) (l i) (p i) (q i)) in
+    let o = c.silk_decode_frame-a.ensures.1 ∙ λ i. frame_output s (frame_call (h i) (n i) (f i) (k i) (r i) (l i) (p i) (q i)) in
+    let e = c.samples_bytes-bytes.ensures ∙ λ i. packed w16 (o i) 320 in
+    λ i. record { refusal = (a i).refusal; state = (a i).state; bytes = e i }
