@@ -1,7 +1,6 @@
 use mir.Facts.{to_z-of_z}
 use Rattle.le.specs.Bytes.{with_bytes}
 use Rattle.load_stream.specs.Stream.{header_of}
-use borrow.Author.Rules.{rules}
 use Rattle.load_stream.proofs.header_of.Goals as goal
 
 pub returns : goal.returns

@@ -5,7 +5,6 @@ use Rattle.decode_frame.specs.Call.{frame_call}
 use Rattle.decode_frame.specs.Answer.{frame_answer, frame_output}
 use Rattle.load.specs.Load.{control_of, rows_of, lines_of, pulses_of, frame_of}
 use Rattle.load_stream.specs.Stream.{heard_of}
-use borrow.Author.Rules.{rules}
 use Rattle.load_stream.proofs.heard_of.Goals as goal
 
 pub returns : goal.returns

@@ -9,7 +9,6 @@ use Rattle.record.specs.Recorded.{received, record_bytes}
 use Rattle.record.proofs.Parts.{length_record}
 use Rattle.load.specs.Load.{params_of, control_of, rows_of, lines_of, pulses_of}
 use Rattle.load_stream.specs.Stream.{received_of}
-use borrow.Author.Rules.{rules}
 use Rattle.load_stream.proofs.received_of.Goals as goal
 
 pub returns : goal.returns

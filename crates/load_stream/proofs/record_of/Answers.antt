@@ -4,7 +4,6 @@ use mir.Facts.{to_z-of_z}
 use Rattle.record.specs.Recorded.{lost, record_bytes}
 use Rattle.load.specs.Load.{is_received}
 use Rattle.load_stream.specs.Stream.{received_of, record_of}
-use borrow.Author.Rules.{rules}
 use Rattle.load_stream.proofs.record_of.Goals as goal
 
 pub returns-then-is_received : goal.returns-then-is_received

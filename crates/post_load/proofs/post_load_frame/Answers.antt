@@ -10,7 +10,6 @@ use Rattle.refusal.specs.declared.Refusal.{Refusal}
 use Rattle.load.specs.Load.{before, load_refusal}
 use Rattle.post_load.specs.Calls.{called, short_load, framed, coefficiented, pulsed}
 use Rattle.post_load.proofs.Ends.{long, too_short, refused, accepted}
-use borrow.Author.Rules.{rules}
 use Rattle.post_load.proofs.post_load_frame.Goals.{After-load_refusal-refusal, After-number, Else-short_load}
 use Rattle.post_load.proofs.post_load_frame.Goals as goal
 

@@ -4,7 +4,6 @@ use mir.Syntax.{w32}
 use mir.Facts.{to_z-of_z}
 use Rattle.word.proofs.Words.{got}
 use Rattle.generator.specs.Draws.{drawn}
-use borrow.Author.Rules.{rules}
 use Rattle.post_load.proofs.post_load_leap.Goals as goal
 
 pub returns : goal.returns

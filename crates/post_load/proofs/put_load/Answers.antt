@@ -5,7 +5,6 @@ use Rattle.shape.specs.Shape.{rate_of}
 use Rattle.numbers.specs.Numbers.{frame_numbers, coef_numbers}
 use Rattle.load.specs.Load.{is_received, params_of, control_of, rows_of, lines_of, pulses_of}
 use Rattle.post_load.specs.Calls.{framed, coefficiented, pulsed}
-use borrow.Author.Rules.{rules}
 use Rattle.post_load.proofs.put_load.Goals as goal
 
 pub returns : goal.returns

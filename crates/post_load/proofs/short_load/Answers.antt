@@ -2,7 +2,6 @@ use mathlib.Core.Path.{ap, ◌∙◌}
 use mathlib.Core.Bool.{Bool, ◌||◌}
 use lib.Dec.{ltb}
 use Rattle.post_load.specs.Calls.{short_load}
-use borrow.Author.Rules.{rules}
 use Rattle.post_load.proofs.short_load.Goals as goal
 
 pub returns : goal.returns
