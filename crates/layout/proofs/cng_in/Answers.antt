@@ -1,7 +1,6 @@
 use mir.Syntax.{w32}
 use Rattle.word.proofs.Words.{kept}
 use Rattle.layout.specs.Layout.{cng_in, one}
-use borrow.Author.Rules.{rules}
 use Rattle.layout.proofs.cng_in.Goals as goal
 
 pub returns : goal.returns

@@ -2,7 +2,6 @@ use mathlib.Core.List.{[], ◌∷◌}
 use mir.Syntax.{w32}
 use Rattle.word.proofs.Words.{kept}
 use Rattle.layout.specs.Layout.{one, numbers}
-use borrow.Author.Rules.{rules}
 use Rattle.layout.proofs.numbers.Goals as goal
 
 pub returns : goal.returns

@@ -1,7 +1,6 @@
 use mir.Syntax.{w16, w32}
 use Rattle.word.proofs.Words.{kept}
 use Rattle.layout.specs.Layout.{plc_in, one}
-use borrow.Author.Rules.{rules}
 use Rattle.layout.proofs.plc_in.Goals as goal
 
 pub returns : goal.returns

@@ -1,5 +1,4 @@
 use Rattle.numbers.specs.Numbers.{coef_numbers}
-use borrow.Author.Rules.{rules}
 use Rattle.numbers.proofs.put_coefs.Goals as goal
 
 pub returns : goal.returns

@@ -5,7 +5,6 @@ use mir.Facts.{to_z-of_z}
 use Rattle.word.proofs.Words.{kept}
 use Rattle.sigproc.specs.Place.{put_at}
 use Rattle.numbers.specs.Numbers.{small_numbers, frame_numbers}
-use borrow.Author.Rules.{rules}
 use Rattle.numbers.proofs.put_frame.Goals as goal
 
 pub returns : goal.returns

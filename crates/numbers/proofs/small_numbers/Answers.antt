@@ -4,7 +4,6 @@ use mir.Syntax.{w8, w32}
 use mir.Facts.{to_z-of_z}
 use Rattle.word.proofs.Words.{got, kept}
 use Rattle.numbers.specs.Numbers.{small_numbers}
-use borrow.Author.Rules.{rules}
 use Rattle.numbers.proofs.small_numbers.Goals as goal
 
 pub returns : goal.returns

@@ -1,5 +1,4 @@
 use mathlib.Core.Path.{◌∙◌}
-use borrow.Author.Rules.{rules}
 use mir.Syntax.{w8, w32}
 use Rattle.word.specs.Int.{wrap}
 use Rattle.word.proofs.Words.{kept}

@@ -1,5 +1,4 @@
 use mathlib.Core.List.{[], ◌∷◌}
-use borrow.Author.Rules.{rules}
 use Rattle.layout.specs.Frame.{rows_in}
 use Rattle.layout.proofs.frame.rows_in.Goals as goal
 

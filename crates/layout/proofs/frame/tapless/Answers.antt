@@ -1,4 +1,3 @@
-use borrow.Author.Rules.{rules}
 use Rattle.layout.specs.Frame.{tapless}
 use Rattle.layout.proofs.frame.tapless.Goals as goal
 
