@@ -21,15 +21,15 @@ within : {t : Bool} (c : After-in_q12-m) → let a = c.loop.a in
     lt_z (pos 32767) (to_z w32 (of_z w32 c.in_q12-m.result)) ≡ t → lt_z (pos 32767) (in_q12 (maxabs a (length a)).size) ≡ t
 within c e = rw (got w32 c.in_q12-m.type_inv (largest c)) at e
 
-pub chirp_of-requires : goal.chirp_of-requires
-chirp_of-requires c =
-    let a = c.loop.a in
-    (c.if-m-gt32767.true, rw c.maxabs-p.ensures (maxabs-place a (length a) (search rules)))
-
 pub returns-else-m-gt32767 : goal.returns-else-m-gt32767
 returns-else-m-gt32767 c =
     let t = c.loop-test.true in
     rw (c.rounded.ensures, c.loop.invariant.3) (sym (fit-stops c.loop.a c.loop.counter t (within (goal.at.returns-else-m-gt32767 c).After-in_q12-m c.if-m-gt32767.false)))
+
+pub chirp_of-requires : goal.chirp_of-requires
+chirp_of-requires c =
+    let a = c.loop.a in
+    (c.if-m-gt32767.true, rw c.maxabs-p.ensures (maxabs-place a (length a) (search rules)))
 
 pub loop-preserved : goal.loop-preserved
 loop-preserved c =

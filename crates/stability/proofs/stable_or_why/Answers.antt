@@ -27,11 +27,6 @@ sum_test c e =
     rw (total-take s.a.now s.order s.order (le_refl s.order), ← c.dc_resp.ensures)
     (tested w32 (λ z. le_z (pos 4096) z) c.dc_resp.result c.dc_resp.type_inv e)
 
-pub returns-then-dc_resp-ge4096 : goal.returns-then-dc_resp-ge4096
-unfolding stability stability_by
-returns-then-dc_resp-ge4096 c =
-    rw (length-take-le c.args.order c.args.a.now c.requires.2, sum_test c.before c.if-dc_resp-ge4096.true) refl
-
 pub returns : goal.returns
 unfolding stability stability_by
 returns c =
@@ -48,3 +43,8 @@ returns c =
       steps_cong a_limit c.args.edition (q ++ drop d (replicate 16 (pos 0))) q (pos (2 ^ 30)) (d - 1)
           (λ i h. get_or-append q (drop d (replicate 16 (pos 0))) (pos 0) i (rw (length-map, l) (omega arith))),
     )
+
+pub returns-then-dc_resp-ge4096 : goal.returns-then-dc_resp-ge4096
+unfolding stability stability_by
+returns-then-dc_resp-ge4096 c =
+    rw (length-take-le c.args.order c.args.a.now c.requires.2, sum_test c.before c.if-dc_resp-ge4096.true) refl

@@ -36,11 +36,11 @@ unfolding step a_limit
 returns-then-a c =
     rw (size_below 16773021 c.args.a (lt_read_l (negsuc 16773021) c.ranges.a c.if-a.true)) refl
 
-pub returns-then-next-lt107374 : goal.returns-then-next-lt107374
-unfolding step a_limit
-returns-then-next-lt107374 c = rw (within c.before.before.before, ← gain c.before, low c.before c.if-next-lt107374.true) refl
-
 pub returns : goal.returns
 unfolding step a_limit
 returns c =
     rw (kept w32 c.next_gain-next.result c.next_gain-next.type_inv, within c.before.before.before, ← gain c.before, low c.before c.if-next-lt107374.false) refl
+
+pub returns-then-next-lt107374 : goal.returns-then-next-lt107374
+unfolding step a_limit
+returns-then-next-lt107374 c = rw (within c.before.before.before, ← gain c.before, low c.before c.if-next-lt107374.true) refl
