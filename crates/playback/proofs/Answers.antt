@@ -1,5 +1,5 @@
 -- What playing a recording answers, refused or not.
-use Prim.Native.Nat.{ℕ, suc, ◌-◌, ◌*◌}
+use Prim.Native.Nat.{ℕ, suc, ◌-◌}
 use mathlib.Core.Path.{◌≡◌, refl, ap}
 use mathlib.Core.List.{List, [], ◌∷◌, ◌++◌, map}
 use borrow.Author.Tests.{eq-eqb, ne_eqb}
@@ -8,7 +8,7 @@ use lib.ListN.{length, drop}
 use Rattle.refusal.specs.Refusals.{refusal_number}
 use Rattle.chain.specs.Chain.{chain_of, on_chain}
 use Rattle.recording.specs.Frames.{frames_in}
-use Rattle.playback.specs.Playback.{received_in, played_samples, play_refusal, Output, play_of}
+use Rattle.playback.specs.Playback.{received_in, played_samples, play_refusal, play_of}
 
 pub length-map : {A B : Type 0} (f : A → B) (xs : List A) → length (map f xs) ≡ length xs
 length-map f [] = refl

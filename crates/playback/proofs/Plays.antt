@@ -1,25 +1,21 @@
 -- Every frame of an accepted recording is played.
-use Prim.Native.Nat.{ℕ, suc, ◌+◌, ◌*◌, ◌≤◌, ◌<◌}
-use mathlib.Core.Path.{◌≡◌, refl, sym, ap, ◌∙◌, subst}
+use Prim.Native.Nat.{ℕ, ◌+◌, ◌*◌, ◌≤◌}
+use mathlib.Core.Path.{◌≡◌, refl}
 use mathlib.Core.Bool.{Bool, true, false, cond}
-use mathlib.Core.List.{List, [], ◌∷◌, ◌++◌, map}
+use mathlib.Core.List.{List, [], ◌∷◌, map}
 use native.Mathlib.Omega.{arith}
-use borrow.Author.Tests.{ltb-true, ltb-false}
-use lib.Dec.{eqb, ltb, lit≤}
+use lib.Dec.{eqb}
 use lib.IntN.{ℤ, pos}
-use lib.ListN.{length, get_or, drop, replicate, length-replicate, get_or-eq_default}
+use lib.ListN.{length, get_or, drop, length-replicate}
 use mir.Syntax.{Width, w16, w32}
-use mir.Val.{SFits}
-use Rattle.word.specs.Tabulate.{tabulate}
-use Rattle.word.proofs.Lists.{length-tabulate, get_or-tabulate}
+use Rattle.word.proofs.Lists.{length-tabulate}
 use Rattle.word.proofs.Words.{wrap-fits}
-use Rattle.le.specs.Bytes.{Bytes, signed_at, words_at}
-use Rattle.refusal.specs.First.{first_of, earlier}
+use Rattle.le.specs.Bytes.{signed_at, words_at}
 use Rattle.refusal.specs.Refusals.{refusal_number}
 use Rattle.refusal.specs.declared.Refusal.TheVariants.{Nothing}
 use Rattle.refusal.proofs.Clear.{clear, passed}
 use Rattle.refusal.proofs.Earliest.{earlier-clear}
-use Rattle.shape.specs.Shape.{Shape, shape, is_rate, is_count, rate_of, count_of}
+use Rattle.shape.specs.Shape.{shape, is_rate, is_count}
 use Rattle.shape.proofs.Shapes.{frame_le}
 use Rattle.decoder.specs.Settings.{settings_fit, is_squelch}
 use Rattle.decoder.specs.Ranges.{within}
@@ -30,16 +26,12 @@ use Rattle.decoder.proofs.Types.{zero_fits, zeros-words, tabulate-fits}
 use Rattle.judge.specs.Rows.{description_rows}
 use Rattle.record.specs.Record.{params_in, control_in, rows_in, lines_in, pulses_in}
 use Rattle.record.specs.Recorded.{Recorded, lost, received, recorded_in}
-use Rattle.chain.specs.Chain.{records_in, chain_of, on_chain}
-use Rattle.chain.proofs.Steps.{whole}
+use Rattle.chain.specs.Chain.{chain_of, on_chain}
 use Rattle.recording.specs.Frames.{rate_in, count_in, recorded_at, frames_in, described, described_all}
-use Rattle.recording.specs.Reading.{read_refusal}
-use Rattle.recording.proofs.Answers.{Clear, rows-clear, few-frames}
-use Rattle.decode_frame.specs.Call.{Call}
-use Rattle.lists.specs.Claims.{Every, TypedCall, TypedCalls, Playable, Played}
-use Rattle.lists.specs.Lists.{places}
+use Rattle.recording.proofs.Answers.{rows-clear, few-frames}
+use Rattle.lists.specs.Claims.{Every, TypedCall, TypedCalls, Playable}
 use Rattle.lists.proofs.Plays.{frames-played}
-use Rattle.playback.specs.Playback.{no_control, silence, call_of, plain, start_of}
+use Rattle.playback.specs.Playback.{no_control, silence, call_of, plain}
 use Rattle.playback.specs.Claims.{RecordingPlays}
 use Rattle.playback.proofs.Answers.{length-map, length-frames}
 

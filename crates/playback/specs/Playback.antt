@@ -1,5 +1,5 @@
 -- Document 02, Note 9: a recording played by a post that is set up for its shape.
-use Rattle.std.specs.Prelude.{ℕ, ◌+◌, ◌-◌, ◌*◌, List, [], ◌∷◌, ◌++◌, map, ltb, ℤ, pos, length, take, drop, replicate}
+use Rattle.std.specs.Prelude.{ℕ, ◌+◌, ◌-◌, ◌*◌, List, [], ◌∷◌, ◌++◌, ltb, ℤ, pos, length, take, drop, replicate}
 use Rattle.edition.specs.Edition.{newer}
 use Rattle.refusal.specs.First.{◌gives◌, first_or}
 use Rattle.refusal.specs.Refusals.{if_accepted}

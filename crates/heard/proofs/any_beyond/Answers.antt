@@ -1,12 +1,9 @@
-use Prim.Native.Nat.{◌≤◌, ◌-◌}
-use mathlib.Core.Path.{◌≡◌, refl}
+use mathlib.Core.Path.{refl}
 use native.Mathlib.Numerals.{add-one}
 use native.Mathlib.Nat.{le_antisymm}
 use lib.IntN.{pos}
-use lib.ListN.{take, length}
 use lib.Seq.{take-suc, take-length}
-use mir.Syntax.{w16, w32}
-use mir.Val.{to_z}
+use mir.Syntax.{w16}
 use mir.Facts.{to_z-of_z}
 use Rattle.word.proofs.Words.{kept}
 use Rattle.heard.specs.Loud.{any_beyond}

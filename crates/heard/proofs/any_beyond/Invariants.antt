@@ -1,17 +1,7 @@
 use Prim.Native.Nat.{◌≤◌, ◌-◌}
-use mathlib.Core.Path.{◌≡◌, refl}
-use native.Mathlib.Numerals.{add-one}
-use native.Mathlib.Nat.{le_antisymm}
-use lib.IntN.{pos}
+use mathlib.Core.Path.{◌≡◌}
 use lib.ListN.{take, length}
-use lib.Seq.{take-suc, take-length}
-use mir.Syntax.{w16, w32}
-use mir.Val.{to_z}
-use mir.Facts.{to_z-of_z}
-use Rattle.word.proofs.Words.{kept}
 use Rattle.heard.specs.Loud.{any_beyond}
-use Rattle.heard.proofs.Laws.{beyond_snoc}
-use borrow.Author.Rules.{rules}
 use Rattle.heard.proofs.any_beyond.Given as goal
 
 abbrev pub invariant-loop-i : goal.invariant-loop-i

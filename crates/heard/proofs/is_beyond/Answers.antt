@@ -1,10 +1,8 @@
-use mathlib.Core.Path.{refl}
-use mir.Syntax.{w16, w32}
+use mir.Syntax.{w32}
 use mir.Facts.{to_z-of_z}
 use Rattle.word.proofs.Words.{kept}
 use Rattle.heard.specs.Loud.{is_beyond}
 use Rattle.heard.proofs.Laws.{size-kept}
-use borrow.Author.Rules.{rules}
 use Rattle.heard.proofs.is_beyond.Goals as goal
 
 pub returns : goal.returns

@@ -1,12 +1,11 @@
-use mathlib.Core.Path.{◌≡◌, sym, ap, ◌∙◌}
+use mathlib.Core.Path.{◌≡◌, sym}
 use native.Mathlib.Omega.{arith}
 use Prim.Native.Nat.{◌≤◌}
-use lib.ListN.{length, take}
+use lib.ListN.{length}
 use lib.Seq.{length-take-le}
 use mir.Facts.{to_z-of_z}
 use Rattle.shape.specs.Shape.{shape, frame_length}
 use Rattle.shape.proofs.Shapes.{frame_le}
-use borrow.Author.Rules.{rules}
 use Rattle.heard.proofs.is_loud.Goals.{After-frame_length-n}
 use Rattle.heard.proofs.is_loud.Goals as goal
 

@@ -1,7 +1,4 @@
-use Prim.Native.Nat.{◌-◌, ◌*◌, ◌/◌}
-use mathlib.Core.Path.{◌≡◌}
 use native.Mathlib.Omega.{arith}
-use borrow.Author.Rules.{rules}
 use Rattle.playback.proofs.most.Goals as goal
 
 pub returns-then-n-eq0 : goal.returns-then-n-eq0

@@ -1,6 +1,5 @@
-use Prim.Native.Nat.{ℕ, ◌-◌, ◌*◌, ◌/◌, ◌≤◌}
+use Prim.Native.Nat.{ℕ, ◌-◌, ◌*◌, ◌≤◌}
 use mathlib.Core.Path.{◌≡◌, refl, sym, ap, ◌∙◌, subst}
-use mathlib.Core.Bool.{true}
 use mathlib.Core.List.{List, [], ◌∷◌, ◌++◌, map}
 use native.Mathlib.Omega.{arith}
 use borrow.Author.Tests.{ltb-false}
@@ -8,7 +7,7 @@ use lib.Dec.{ltb, lit≤}
 use lib.IntN.{ℤ}
 use lib.ListN.{length, take, drop}
 use mir.Syntax.{w32}
-use mir.Val.{to_z, of_z, SFits}
+use mir.Val.{to_z, of_z}
 use mir.Facts.{to_z-of_z}
 use Rattle.refusal.specs.First.{◌gives◌, first_or}
 use Rattle.refusal.specs.Refusals.{refusal_number}
@@ -16,13 +15,13 @@ use Rattle.refusal.specs.declared.Refusal.TheVariants.{Record}
 use Rattle.refusal.proofs.Clear.{clear}
 use Rattle.decoder.specs.SetUp.{set_up_with}
 use Rattle.decoder.proofs.SetUps.{rate_fits, count_fits}
-use Rattle.chain.specs.Chain.{is_whole, records_in, chain_of, on_chain, padded}
+use Rattle.chain.specs.Chain.{records_in, chain_of, on_chain, padded}
 use Rattle.chain.proofs.Records.{padded-front}
 use Rattle.recording.specs.Frames.{rate_in, count_in, recorded_at, frames_in, Inside}
 use Rattle.recording.specs.Reading.{read_refusal, read_of}
 use Rattle.recording.specs.declared.Recording.{Recording}
 use Rattle.recording.proofs.Answers.{Clear, rows-clear, read-accepted, padded_60, few-frames, on_chain_lem, inside}
-use Rattle.playback.specs.Playback.{samples_from, received_in, plain, start_of, played_samples, play_refusal}
+use Rattle.playback.specs.Playback.{samples_from, received_in, plain, played_samples, play_refusal}
 use Rattle.playback.proofs.Answers.{length-frames, play_refused, play_accepted}
 use borrow.Author.Rules.{rules}
 use Rattle.playback.proofs.play.Goals.{After-first-refusal, Else-number-ne0}

@@ -1,4 +1,4 @@
-use Prim.Native.Nat.{ℕ, ◌+◌, ◌*◌, ◌-◌, ◌≤◌}
+use Prim.Native.Nat.{ℕ, ◌+◌, ◌≤◌}
 use mathlib.Core.Path.{◌≡◌, refl, sym, ap, ◌∙◌}
 use native.Mathlib.Omega.{arith}
 use native.Mathlib.Nat.{le_antisymm}
@@ -10,9 +10,8 @@ use mir.Facts.{to_z-of_z}
 use Rattle.sigproc.specs.Place.{put_at}
 use Rattle.recording.specs.Frames.{recorded_at}
 use Rattle.playback.specs.Playback.{call_of, sound_of}
-use Rattle.shape.specs.Shape.{shape, frame_length}
 use Rattle.shape.proofs.Shapes.{frame_le}
-use Rattle.playback.proofs.Frames.{Played, none-played, one_more, all_count, all_played}
+use Rattle.playback.proofs.Frames.{none-played, one_more, all_count, all_played}
 use borrow.Author.Rules.{rules}
 use Rattle.playback.proofs.play_frames.Goals.{After-sound_at-t, In-loop-k}
 use Rattle.playback.proofs.play_frames.Goals as goal

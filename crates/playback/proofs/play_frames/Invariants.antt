@@ -1,19 +1,8 @@
-use Prim.Native.Nat.{ℕ, ◌+◌, ◌*◌, ◌-◌, ◌≤◌}
-use mathlib.Core.Path.{◌≡◌, refl, sym, ap, ◌∙◌}
-use native.Mathlib.Omega.{arith}
-use native.Mathlib.Nat.{le_antisymm}
-use lib.ListN.{length, take}
-use lib.Seq.{length-take-le}
-use mir.Syntax.{w32}
-use mir.Val.{to_z, of_z}
-use mir.Facts.{to_z-of_z}
-use Rattle.sigproc.specs.Place.{put_at}
-use Rattle.recording.specs.Frames.{recorded_at}
-use Rattle.playback.specs.Playback.{call_of, sound_of}
+use Prim.Native.Nat.{◌*◌, ◌-◌, ◌≤◌}
+use mathlib.Core.Path.{◌≡◌}
+use lib.ListN.{length}
 use Rattle.shape.specs.Shape.{shape, frame_length}
-use Rattle.shape.proofs.Shapes.{frame_le}
-use Rattle.playback.proofs.Frames.{Played, none-played, one_more, all_count, all_played}
-use borrow.Author.Rules.{rules}
+use Rattle.playback.proofs.Frames.{Played}
 use Rattle.playback.proofs.play_frames.Given as goal
 
 abbrev pub invariant-loop-k : goal.invariant-loop-k

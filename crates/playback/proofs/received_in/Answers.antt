@@ -1,11 +1,7 @@
-use Prim.Native.Nat.{ℕ, ◌+◌, ◌*◌, ◌≤◌, ◌-◌}
-use mathlib.Core.Path.{◌≡◌}
-use mathlib.Core.List.{map}
+use Prim.Native.Nat.{◌-◌}
 use native.Mathlib.Omega.{arith}
 use native.Mathlib.Nat.{le_antisymm}
-use lib.ListN.{length}
-use Rattle.recording.specs.Frames.{recorded_at}
-use Rattle.recording.proofs.Back.{last, last_none, last_more, last_all}
+use Rattle.recording.proofs.Back.{last_none, last_more, last_all}
 use Rattle.playback.specs.Playback.{received_in}
 use borrow.Author.Rules.{rules}
 use Rattle.playback.proofs.received_in.Goals as goal

@@ -9,7 +9,6 @@ use borrow.Author.Tests.{eq-eqb, ne_eqb}
 use Rattle.record.specs.Recorded.{recorded_in}
 use Rattle.recording.specs.Frames.{recorded_at}
 use Rattle.playback.specs.Playback.{received_one}
-use borrow.Author.Rules.{rules}
 use Rattle.playback.proofs.received_one.Goals as goal
 
 kind : (b : List ℕ) (at : ℕ) → get_or (drop at b) 0 0 ≡ get_or b at 0

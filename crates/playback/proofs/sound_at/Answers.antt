@@ -4,7 +4,6 @@ use lib.ListN.{length-drop}
 use mir.Facts.{to_z-of_z}
 use Rattle.recording.specs.Frames.{recorded_at}
 use Rattle.recording.proofs.Back.{rest}
-use borrow.Author.Rules.{rules}
 use Rattle.playback.proofs.sound_at.Goals as goal
 
 pub frame_sound-requires : goal.frame_sound-requires
