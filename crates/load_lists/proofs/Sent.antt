@@ -9,7 +9,6 @@ use lib.ListN.{length}
 use Rattle.refusal.specs.Refusals.{refusal_number}
 use Rattle.shape.specs.Shape.{shape, is_rate, is_count, frame_length}
 use Rattle.shape.proofs.Shapes.{frame_le}
-use Rattle.decode_frame.specs.Call.{Call}
 use Rattle.lists.specs.Claims.{Every, none, then, TypedCall, TypedCalls, Playable}
 use Rattle.lists.proofs.History.{set_up-shaped}
 use Rattle.lists.proofs.Plays.{frames-played}

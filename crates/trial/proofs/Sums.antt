@@ -1,7 +1,7 @@
 -- The three counts of a listener add up to the frames sent.
 use Prim.Native.Nat.{ℕ, zero, suc, ◌+◌, ◌<◌}
 use mathlib.Core.Path.{◌≡◌, refl, ap, ◌∙◌}
-use mathlib.Core.Bool.{Bool, true, false, cond, not, ◌&&◌}
+use mathlib.Core.Bool.{Bool, true, false, cond, not}
 use mathlib.Core.List.{List, [], ◌∷◌, map}
 use native.Mathlib.Nat.{not-suc-le-zero}
 use native.Mathlib.Omega.{arith}
@@ -9,7 +9,6 @@ use lib.IntN.{ℤ, pos, nat_abs}
 use lib.ListN.{length, get_or, replicate}
 use Rattle.refusal.specs.Refusals.{refusal_number, if_accepted}
 use Rattle.refusal.specs.declared.Refusal.{Refusal}
-use Rattle.refusal.specs.declared.Refusal.TheVariants.{Nothing}
 use Rattle.listener.specs.declared.Link.{Link}
 use Rattle.listener.specs.Link.{good_at}
 use Rattle.listener.specs.Heard.{Heard, as_received, as_concealed, as_squelched, losses_at, silent, heard_by, count_to}

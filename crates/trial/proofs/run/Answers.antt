@@ -18,7 +18,6 @@ use Rattle.trial.specs.Calls.{heard_of}
 use Rattle.trial.specs.Trial.{trial_refusal, reported, trial_of}
 use Rattle.trial.proofs.Counts.{accepted, natural_squelch, heard_by_link}
 use Rattle.trial.proofs.Sums.{map_cong}
-use borrow.Author.Rules.{rules}
 use Rattle.trial.proofs.run.Goals.{After-number, After-trial_refusal-refusal, Else-number-ne0}
 use Rattle.trial.proofs.run.Goals as goal
 

@@ -2,7 +2,6 @@ use mir.Facts.{to_z-of_z}
 use Rattle.refusal.specs.First.{first_or}
 use Rattle.decoder.specs.Settings.{is_squelch}
 use Rattle.trial.specs.Trial.{trial_refusal}
-use borrow.Author.Rules.{rules}
 use Rattle.trial.proofs.trial_refusal.Goals as goal
 
 pub returns : goal.returns
