@@ -1,7 +1,7 @@
 -- Bounds of a subframe's places.
 use Prim.Native.Nat.{ℕ, ◌+◌, ◌*◌, ◌^◌, ◌<◌, ◌≤◌}
-use mathlib.Core.Path.{◌≡◌, refl, sym, ap, ◌∙◌}
-use mathlib.Core.Bool.{Bool, true, false, cond, ◌&&◌, ◌||◌}
+use mathlib.Core.Path.{◌≡◌, refl}
+use mathlib.Core.Bool.{Bool, true, false, ◌&&◌, ◌||◌}
 use mathlib.Core.List.{List}
 use native.Mathlib.Omega.{arith}
 use native.Mathlib.Nat.{mul-le-mul}
@@ -15,7 +15,7 @@ use mir.Val.{Fits}
 use Rattle.sigproc.proofs.Places.{length-put_at}
 use Rattle.decoder.specs.declared.SilkDecoderControl.{SilkDecoderControl}
 use Rattle.decode_core.specs.Core.{rewhitens, buffer_at}
-use Rattle.decode_core.specs.Ready.{Sized, Ready}
+use Rattle.decode_core.specs.Ready.{Ready}
 use Rattle.decode_core.specs.declared.Setting.{Setting}
 
 -- a number that is not negative is a length

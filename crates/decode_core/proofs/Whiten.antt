@@ -12,7 +12,7 @@ use lib.Seq.{get_or-take, get_or-drop, get_or-append-add, drop-drop, take_at, dr
 use mir.Syntax.{w32}
 use mir.Val.{SFits}
 use Rattle.word.specs.Tabulate.{tabulate}
-use Rattle.word.proofs.Lists.{length-tabulate, get_or-tabulate, tabulate_cong}
+use Rattle.word.proofs.Lists.{length-tabulate, get_or-tabulate}
 use Rattle.macros.specs.Fixed.{smulww, smulwb}
 use Rattle.sigproc.specs.Analysis.{products, residual, analysis}
 use Rattle.sigproc.proofs.Fill.{length-map, get_or-map}

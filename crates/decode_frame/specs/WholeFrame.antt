@@ -1,5 +1,5 @@
 -- Document 01, "A whole frame": the order of work of silk_decode_frame (decode_frame.rs).
-use Rattle.std.specs.Prelude.{ℕ, ◌-◌, Bool, cond, List, ◌++◌, ℤ, pos, get_or, take, drop, replicate}
+use Rattle.std.specs.Prelude.{◌-◌, Bool, cond, List, ◌++◌, ℤ, pos, get_or, take, drop, replicate}
 use Rattle.sigproc.specs.Place.{update_out_buf}
 use Rattle.shape.specs.Shape.{Shape, frame_length, mem_length, lpc_order}
 use Rattle.decoder.specs.Signals.{signal_number}

@@ -1,5 +1,5 @@
 -- Gluing keeps the frame's length, the ranges of what concealment holds, and the types.
-use Prim.Native.Nat.{ℕ, zero, suc, ◌+◌, ◌^◌, ◌<◌, ◌≤◌, zero-le}
+use Prim.Native.Nat.{ℕ, zero, suc, ◌^◌, ◌≤◌, zero-le}
 use mathlib.Core.Path.{◌≡◌, refl, ap, ◌∙◌}
 use mathlib.Core.Bool.{cond}
 use mathlib.Core.List.{List, [], ◌∷◌}
@@ -20,7 +20,7 @@ use Rattle.decoder.specs.Typed.{Words, TypedPlc, Typed}
 use Rattle.decoder.specs.declared.SilkPLCState.{SilkPLCState}
 use Rattle.decoder.specs.declared.SilkDecoderState.{SilkDecoderState}
 use Rattle.decoder.proofs.Between.{either, Between}
-use Rattle.decoder.proofs.Bounds.{PlcHeldBounds, PlcBounds}
+use Rattle.decoder.proofs.Bounds.{PlcBounds}
 use Rattle.decoder.proofs.Built.{typed_plc}
 use Rattle.glue.specs.Glue.{hold_energy, ramped, start_gain, lowered, joined, glue_frames}
 use Rattle.glue.proofs.Shifts.{shift_most}

@@ -1,6 +1,6 @@
 -- Differences of shifts that stop at 0, and the zeros above a number that is not negative.
 use Prim.Native.Nat.{ℕ, zero, suc, ◌+◌, ◌-◌, ◌*◌, ◌%◌, ◌^◌, ◌<◌, ◌≤◌}
-use mathlib.Core.Path.{◌≡◌, refl, sym, ap, ◌∙◌}
+use mathlib.Core.Path.{◌≡◌, refl, ap, ◌∙◌}
 use mathlib.Core.Bool.{Bool, true, false, cond}
 use mathlib.Core.List.{List}
 use native.Mathlib.Omega.{arith}
@@ -8,12 +8,10 @@ use native.Mathlib.Nat.{mod-eq_of_lt, pow-suc}
 use borrow.Author.Tests.{lt-ltb, ltb-true, ltb-false}
 use lib.Count.{count_leading_zeros, leading_length}
 use lib.Dec.{ltb}
-use lib.IntN.{ℤ, pos, negsuc, nat_abs, ◌-ℤ◌}
+use lib.IntN.{ℤ, pos, negsuc, ◌-ℤ◌}
 use lib.ListN.{length}
 use lib.Pow.{pow_mono}
-use lib.Signed.{lt_z}
-use mir.Syntax.{w32}
-use Rattle.word.specs.Int.{mod_ℤ, wrap32, max_ℤ}
+use Rattle.word.specs.Int.{wrap32, max_ℤ}
 use Rattle.word.proofs.Parts.{P, N, sub_parts_ℤ}
 use Rattle.word.proofs.Sizes.{abs-fits, abs-sub}
 use Rattle.word.proofs.Words.{wrap_id}

@@ -1,13 +1,11 @@
-use Prim.Native.Nat.{ℕ, ◌≤◌, ◌-◌}
-use mathlib.Core.Path.{◌≡◌, refl}
-use mathlib.Core.List.{◌++◌}
+use Prim.Native.Nat.{ℕ}
+use mathlib.Core.Path.{refl}
 use native.Mathlib.Nat.{le_antisymm}
 use native.Mathlib.Omega.{arith}
 use borrow.Author.Rules.{rules}
 use lib.IntN.{pos}
-use lib.ListN.{length, get_or, drop}
+use lib.ListN.{length, get_or}
 use mir.Syntax.{w32}
-use mir.Val.{to_z}
 use mir.Facts.{to_z-of_z}
 use Rattle.word.specs.Tabulate.{tabulate}
 use Rattle.word.proofs.Words.{kept}

@@ -1,4 +1,3 @@
-use borrow.Author.Rules.{rules}
 use borrow.Author.Tests.{eq-eqb, ne_eqb}
 use Rattle.decode_core.specs.Core.{buffer_at}
 use Rattle.decode_core.proofs.buffer_at.Goals as goal

@@ -1,14 +1,12 @@
-use Prim.Native.Nat.{◌*◌}
-use mathlib.Core.Path.{◌≡◌, refl, sym, ap, ◌∙◌}
+use mathlib.Core.Path.{◌≡◌, refl, ap, ◌∙◌}
 use native.Mathlib.Omega.{arith}
 use borrow.Author.Rules.{rules}
 use lib.ListN.{length}
 use mir.Syntax.{w32}
 use mir.Val.{to_z, of_z}
 use Rattle.word.proofs.Words.{kept}
-use Rattle.shape.specs.Shape.{frame_length, count_of}
+use Rattle.shape.specs.Shape.{count_of}
 use Rattle.shape.proofs.Shapes.{frame_le}
-use Rattle.decoder.specs.State.{shape_of}
 use Rattle.decode_core.specs.declared.Carried.{Carried}
 use Rattle.decode_core.proofs.Frames.{frame_of_lem, decoded_state, decoded_control, decoded-samples}
 use Rattle.decode_core.proofs.decoded.Goals.{Start}

@@ -1,5 +1,4 @@
 use mathlib.Core.Path.{◌≡◌, refl, sym, ap, ◌∙◌}
-use lib.IntN.{pos}
 use mir.Syntax.{w32}
 use mir.Val.{of_z, to_z}
 use mir.Facts.{to_z-of_z}

@@ -1,15 +1,7 @@
 use Prim.Native.Nat.{◌+◌, ◌≤◌, ◌-◌}
-use mathlib.Core.Path.{◌≡◌, refl, ◌∙◌}
+use mathlib.Core.Path.{◌≡◌}
 use mathlib.Core.List.{◌++◌}
-use native.Mathlib.Numerals.{add-one}
-use native.Mathlib.Nat.{le_antisymm}
-use native.Mathlib.Omega.{arith}
-use borrow.Author.Rules.{rules}
-use lib.ListN.{length, take, drop, length-drop}
-use lib.Seq.{take_all, take_at}
-use mir.Syntax.{w32}
-use Rattle.word.proofs.Words.{kept}
-use Rattle.decode_core.proofs.Short.{keep_turn}
+use lib.ListN.{length, take, drop}
 use Rattle.decode_core.proofs.keep.Given as goal
 
 abbrev pub invariant-loop-i : goal.invariant-loop-i

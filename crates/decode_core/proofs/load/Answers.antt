@@ -1,6 +1,5 @@
 use mathlib.Core.Path.{sym}
 use native.Mathlib.Omega.{arith}
-use borrow.Author.Rules.{rules}
 use lib.Seq.{length-take-le}
 use mir.Facts.{to_z-of_z}
 use Rattle.macros.specs.Fixed.{smulww}

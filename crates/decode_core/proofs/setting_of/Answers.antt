@@ -1,4 +1,3 @@
-use borrow.Author.Rules.{rules}
 use mir.Syntax.{w8, w32}
 use Rattle.word.proofs.Words.{kept}
 use Rattle.decode_core.specs.Core.{transition, setting_of}

@@ -1,11 +1,9 @@
-use Prim.Native.Nat.{◌-◌, ◌≤◌}
-use mathlib.Core.Path.{◌≡◌, refl, sym, ap, ◌∙◌}
+use mathlib.Core.Path.{◌≡◌, refl, ◌∙◌}
 use native.Mathlib.Numerals.{add-one}
 use native.Mathlib.Nat.{le_antisymm}
-use native.Mathlib.Omega.{arith}
 use borrow.Author.Rules.{rules}
 use lib.ListN.{length}
-use Rattle.decode_core.proofs.Loop.{Going, begun, playable, went, room}
+use Rattle.decode_core.proofs.Loop.{begun, playable, went, room}
 use Rattle.decode_core.proofs.subframes.Goals as goal
 
 pub loop-k-init : goal.loop-k-init

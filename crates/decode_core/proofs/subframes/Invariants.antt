@@ -1,11 +1,7 @@
 use Prim.Native.Nat.{◌-◌, ◌≤◌}
-use mathlib.Core.Path.{◌≡◌, refl, sym, ap, ◌∙◌}
-use native.Mathlib.Numerals.{add-one}
-use native.Mathlib.Nat.{le_antisymm}
-use native.Mathlib.Omega.{arith}
-use borrow.Author.Rules.{rules}
+use mathlib.Core.Path.{◌≡◌}
 use lib.ListN.{length}
-use Rattle.decode_core.proofs.Loop.{Going, begun, playable, went, room}
+use Rattle.decode_core.proofs.Loop.{Going}
 use Rattle.decode_core.proofs.subframes.Given as goal
 
 abbrev pub invariant-loop-k : goal.invariant-loop-k

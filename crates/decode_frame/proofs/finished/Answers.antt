@@ -1,11 +1,9 @@
 use Prim.Native.Nat.{◌-◌, ◌≤◌}
 use mathlib.Core.Path.{◌≡◌, ap, ◌∙◌}
 use native.Mathlib.Omega.{arith}
-use borrow.Author.Rules.{rules}
 use lib.IntN.{pos}
-use lib.ListN.{length, get_or}
+use lib.ListN.{get_or}
 use mir.Syntax.{w16, w32}
-use mir.Val.{to_z, of_z}
 use Rattle.word.proofs.Words.{kept}
 use Rattle.sigproc.specs.Energy.{energy_at, energy_shift}
 use Rattle.shape.specs.Shape.{frame_length, lpc_order, count_of}
@@ -13,7 +11,7 @@ use Rattle.shape.proofs.Shapes.{shaped, frame_le, counts, count_range}
 use Rattle.decoder.specs.With.{with_lag, with_noise, with_plc}
 use Rattle.decoder.specs.Outcome.{Outcome}
 use Rattle.decoder.specs.State.{shape_of}
-use Rattle.cng.specs.Noise.{cng_ready, sounding, sounded}
+use Rattle.cng.specs.Noise.{cng_ready, sounded}
 use Rattle.glue.specs.Glue.{hold_energy}
 use Rattle.decode_frame.proofs.Heard.{sound, faded, faded-is}
 use Rattle.decode_frame.proofs.finished.Goals.{After-count_of}

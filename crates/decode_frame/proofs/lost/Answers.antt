@@ -1,7 +1,6 @@
 use Prim.Native.Nat.{◌+◌}
-use mathlib.Core.Path.{◌≡◌, refl, sym, ap, ◌∙◌}
+use mathlib.Core.Path.{◌≡◌, ap, ◌∙◌}
 use native.Mathlib.Omega.{arith}
-use borrow.Author.Rules.{rules}
 use mathlib.Core.Bool.{false, cond}
 use lib.IntN.{pos, nat_abs, ◌+ℤ◌}
 use lib.ListN.{length, replicate}

@@ -1,15 +1,8 @@
 use Prim.Native.Nat.{◌-◌, ◌≤◌}
-use mathlib.Core.Path.{◌≡◌, refl}
-use mathlib.Core.List.{◌++◌, append-nil}
-use native.Mathlib.Omega.{arith}
-use native.Mathlib.Nat.{le_antisymm}
-use native.Mathlib.Numerals.{add-one}
-use borrow.Author.Rules.{rules}
-use borrow.Author.Tests.{not-true, not-false}
+use mathlib.Core.Path.{◌≡◌}
+use mathlib.Core.List.{◌++◌}
 use lib.IntN.{pos}
 use lib.ListN.{length, drop, replicate}
-use lib.Seq.{drop-length}
-use Rattle.cng.proofs.Signals.{more-zeros}
 use Rattle.decode_frame.proofs.mute.Given as goal
 
 abbrev pub invariant-loop-i : goal.invariant-loop-i

@@ -1,17 +1,16 @@
-use Prim.Native.Nat.{ℕ, ◌-◌, ◌*◌, ◌≤◌}
-use mathlib.Core.Path.{◌≡◌, refl, sym, ap, subst, ◌∙◌}
+use Prim.Native.Nat.{ℕ, ◌-◌, ◌*◌}
+use mathlib.Core.Path.{◌≡◌, refl, ap, ◌∙◌}
 use native.Mathlib.Omega.{arith}
 use borrow.Author.Rules.{rules}
-use lib.IntN.{ℤ, pos, nat_abs}
+use lib.IntN.{ℤ, pos}
 use lib.ListN.{length, get_or, take, drop}
 use mathlib.Core.Bool.{cond}
 use mathlib.Core.List.{List, ◌++◌}
 use Rattle.word.specs.Int.{eq_ℤ}
 use mir.Syntax.{w32}
-use mir.Val.{to_z, of_z}
 use Rattle.word.proofs.Words.{kept, got}
 use Rattle.sigproc.specs.Place.{update_out_buf}
-use Rattle.shape.specs.Shape.{shape, is_rate, is_count, rate_of, count_of, frame_length, mem_length, lpc_order}
+use Rattle.shape.specs.Shape.{rate_of, count_of, frame_length, mem_length, lpc_order}
 use Rattle.shape.proofs.Shapes.{Shaped, shaped, counts, count_range, order_le, frame_le}
 use Rattle.decoder.specs.With.{with_gain, with_exc, with_memory, with_out_buf}
 use Rattle.decoder.specs.Outcome.{Outcome}
@@ -19,7 +18,7 @@ use Rattle.decoder.specs.Signals.{signal_number}
 use Rattle.decoder.specs.State.{shape_of}
 use Rattle.decoder.specs.declared.SilkDecoderState.{SilkDecoderState}
 use Rattle.decoder.specs.declared.SilkPLCState.{SilkPLCState}
-use Rattle.decoder.proofs.Bounds.{Bounds, bounds}
+use Rattle.decoder.proofs.Bounds.{bounds}
 use Rattle.decoder.specs.Accepted.{Accepted}
 use Rattle.decoder.specs.declared.Params.{Params}
 use Rattle.decoder.specs.declared.SilkDecoderControl.{SilkDecoderControl}
@@ -118,8 +117,7 @@ receive-s_plc-requires c =
     let q = ranges c.args.s c.requires.0 in
     let b = bounds (rate_of s.fs_khz) s c.requires.0 in
     let energy : c.received-updated.result.conc_energy ≡ s.s_plc.conc_energy = ap (λ (h : SilkPLCState). h.conc_energy) updated ∙ (ready_energy (shape_of s) s.s_plc).0 in
-    let shift : c.received-updated.result.conc_energy_shift ≡ s.s_plc.conc_energy_shift = ap (λ (h : SilkPLCState). h.conc_energy_shift) updated ∙ (ready_energy (shape_of s) s.s_plc).1 in
-    (
+    let shift : c.received-updated.result.conc_energy_shift ≡ s.s_plc.conc_energy_shift = ap (λ (h : SilkPLCState). h.conc_energy_shift) updated ∙ (ready_energy (shape_of s) s.s_plc).1 in (
       omega (arith, q.frame_low, q.rate_low),
       omega (arith, frame_le s.fs_khz s.nb_subfr),
       rw energy b.plc.conc_energy,

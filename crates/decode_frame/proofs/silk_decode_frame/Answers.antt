@@ -1,5 +1,4 @@
 use mathlib.Core.Path.{sym, ◌∙◌}
-use borrow.Author.Rules.{rules}
 use mir.Facts.{to_z-of_z}
 use Rattle.decode_frame.specs.WholeFrame.{whole_frame}
 use Rattle.decode_frame.specs.Call.{frame_call}

@@ -1,19 +1,8 @@
 use Prim.Native.Nat.{◌≤◌, ◌-◌}
-use mathlib.Core.Path.{◌≡◌, refl}
+use mathlib.Core.Path.{◌≡◌}
 use mathlib.Core.List.{◌++◌}
-use native.Mathlib.Numerals.{add-one}
-use native.Mathlib.Nat.{le_antisymm}
-use native.Mathlib.Omega.{arith}
-use borrow.Author.Rules.{rules}
-use lib.IntN.{pos}
-use lib.ListN.{length, get_or, drop}
-use mir.Syntax.{w16, w32}
-use mir.Val.{to_z, of_z}
-use mir.Facts.{to_z-of_z}
-use Rattle.word.proofs.Words.{kept}
+use lib.ListN.{length, drop}
 use Rattle.excitation.specs.Excitation.{generator_at, excitation}
-use Rattle.sigproc.proofs.Fill.{filled}
-use Rattle.excitation.proofs.Samples.{excite_turn}
 use Rattle.excitation.proofs.excite.Given as goal
 
 abbrev pub invariant-loop-i : goal.invariant-loop-i

@@ -1,6 +1,6 @@
-use mathlib.Core.Path.{◌≡◌, refl, sym, ap, ◌∙◌}
+use mathlib.Core.Path.{refl, sym, ap, ◌∙◌}
 use lib.IntN.{pos, negsuc, ◌*ℤ◌, +ℤ_idr}
-use mir.Syntax.{w16, w32}
+use mir.Syntax.{w32}
 use mir.Facts.{to_z-of_z}
 use Rattle.word.specs.Int.{wrap32}
 use Rattle.word.proofs.Words.{kept, wrap-wrap}

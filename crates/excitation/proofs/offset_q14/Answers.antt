@@ -1,5 +1,4 @@
 use mathlib.Core.Path.{refl}
-use borrow.Author.Rules.{rules}
 use lib.Dec.{lit<, lit≤}
 use mir.Syntax.{w8}
 use Rattle.word.proofs.Order.{is, isnt}

@@ -1,19 +1,15 @@
-use Prim.Native.Nat.{◌≤◌, ◌^◌}
 use mathlib.Core.Path.{◌≡◌, refl, ◌∙◌}
 use native.Mathlib.Omega.{arith}
-use borrow.Author.Rules.{rules}
-use lib.IntN.{ℤ, pos, nat_abs, ◌-ℤ◌, ◌*ℤ◌}
+use lib.IntN.{ℤ, pos, nat_abs}
 use lib.ListN.{length}
-use lib.Signed.{quot_z}
 use mathlib.Core.List.{List}
 use mir.Syntax.{w32}
 use mir.Val.{to_z, of_z}
 use mir.Facts.{to_z-of_z, to_z_pos}
-use Rattle.word.specs.Int.{wrap32}
 use Rattle.word.proofs.Words.{kept}
 use Rattle.sigproc.specs.Energy.{energy_at, energy_shift, sum_sqr_shift}
 use Rattle.sigproc.specs.declared.Energy.{Energy}
-use Rattle.glue.specs.Glue.{start_gain, lowered, joined}
+use Rattle.glue.specs.Glue.{lowered, joined}
 use Rattle.glue.proofs.Shifts.{shift_most}
 use Rattle.glue.proofs.join.Goals.{After-lowered-concealed}
 use Rattle.glue.proofs.join.Goals as goal

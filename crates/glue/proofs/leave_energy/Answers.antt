@@ -1,6 +1,4 @@
-use mathlib.Core.Path.{◌≡◌}
 use mir.Syntax.{w32}
-use borrow.Author.Rules.{rules}
 use Rattle.word.proofs.Words.{kept}
 use Rattle.sigproc.specs.Energy.{sum_sqr_shift}
 use Rattle.glue.proofs.leave_energy.Goals as goal

@@ -1,12 +1,10 @@
-use Prim.Native.Nat.{◌-◌, ◌≤◌}
 use mathlib.Core.Path.{◌≡◌, refl, sym, ◌∙◌}
-use mathlib.Core.List.{◌++◌, append-nil}
+use mathlib.Core.List.{append-nil}
 use native.Mathlib.Numerals.{add-one}
-use native.Mathlib.Nat.{le_antisymm}
 use native.Mathlib.Omega.{arith}
 use borrow.Author.Rules.{rules}
 use lib.IntN.{pos, ◌+ℤ◌}
-use lib.ListN.{length, get_or, take, drop, drop_of_length-le}
+use lib.ListN.{get_or, drop_of_length-le}
 use lib.Seq.{take_all}
 use mir.Syntax.{w16, w32}
 use mir.Val.{to_z, of_z}

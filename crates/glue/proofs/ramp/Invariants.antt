@@ -1,21 +1,8 @@
 use Prim.Native.Nat.{◌-◌, ◌≤◌}
-use mathlib.Core.Path.{◌≡◌, refl, sym, ◌∙◌}
-use mathlib.Core.List.{◌++◌, append-nil}
-use native.Mathlib.Numerals.{add-one}
-use native.Mathlib.Nat.{le_antisymm}
-use native.Mathlib.Omega.{arith}
-use borrow.Author.Rules.{rules}
-use lib.IntN.{pos, ◌+ℤ◌}
-use lib.ListN.{length, get_or, take, drop, drop_of_length-le}
-use lib.Seq.{take_all}
-use mir.Syntax.{w16, w32}
-use mir.Val.{to_z, of_z}
-use mir.Facts.{to_z-of_z}
-use Rattle.word.specs.Int.{wrap16, wrap32}
-use Rattle.word.proofs.Words.{kept}
-use Rattle.macros.specs.Fixed.{smulwb}
+use mathlib.Core.Path.{◌≡◌}
+use mathlib.Core.List.{◌++◌}
+use lib.ListN.{length, take, drop}
 use Rattle.glue.specs.Glue.{ramped}
-use Rattle.glue.proofs.Turn.{on, off}
 use Rattle.glue.proofs.ramp.Given as goal
 
 abbrev pub invariant-loop-i : goal.invariant-loop-i

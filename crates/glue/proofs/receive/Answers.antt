@@ -1,5 +1,4 @@
-use mathlib.Core.Path.{◌≡◌, refl}
-use borrow.Author.Rules.{rules}
+use mathlib.Core.Path.{refl}
 use lib.Dec.{lit<}
 use mir.Syntax.{w32}
 use mir.Val.{SFits}

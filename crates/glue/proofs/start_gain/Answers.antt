@@ -1,12 +1,12 @@
-use Prim.Native.Nat.{◌-◌, ◌/◌, ◌%◌, ◌^◌, ◌<◌, ◌≤◌}
-use mathlib.Core.Path.{◌≡◌, refl, ap, ◌∙◌}
+use Prim.Native.Nat.{◌-◌, ◌/◌, ◌%◌, ◌^◌, ◌<◌}
+use mathlib.Core.Path.{◌≡◌, ap, ◌∙◌}
 use native.Mathlib.Omega.{arith}
 use native.Mathlib.Nat.{mod-eq_of_lt}
 use lib.IntN.{pos, nat_abs, ◌*ℤ◌}
 use mir.Syntax.{w32}
 use mir.Val.{to_z, of_z}
 use mir.Facts.{to_z-of_z}
-use Rattle.word.specs.Int.{floor_div, wrap32, max_ℤ}
+use Rattle.word.specs.Int.{wrap32, max_ℤ}
 use Rattle.word.proofs.Words.{kept, wrap-fits}
 use Rattle.macros.specs.Fixed.{clz32}
 use Rattle.macros.proofs.Normal.{clz_le, quot_fits_pos}
