@@ -3,8 +3,7 @@ use mathlib.Core.Path.{◌≡◌, refl, sym, ap, ◌∙◌}
 use mathlib.Core.Bool.{Bool, true, false, false≢true}
 use lib.IntN.{ℤ}
 use Rattle.edition.specs.Edition.{older, newer, is_edition}
-use Rattle.decoder.specs.Settings.{is_squelch, settings_fit}
-use Rattle.decoder.specs.With.{with_settings}
+use Rattle.decoder.specs.Settings.{settings_fit}
 use Rattle.decoder.specs.declared.Settings.{Settings}
 use Rattle.decoder.specs.declared.SilkDecoderState.{SilkDecoderState}
 use Rattle.decoder.specs.declared.Params.{Params}

@@ -9,7 +9,6 @@ use Rattle.refusal.specs.Refusals.{if_accepted}
 use Rattle.shape.specs.Shape.{frame_length}
 use Rattle.decoder.specs.Ranges.{within}
 use Rattle.decoder.specs.Settings.{is_squelch, settings_fit, squelched}
-use Rattle.decoder.specs.With.{with_settings}
 use Rattle.decoder.specs.Reshape.{reshaped_by, reshaped}
 use Rattle.decoder.specs.declared.Settings.{Settings}
 use Rattle.decoder.specs.declared.SilkDecoderState.{SilkDecoderState}

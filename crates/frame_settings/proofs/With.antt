@@ -12,12 +12,11 @@ use Rattle.refusal.specs.declared.Refusal.{Refusal}
 use Rattle.refusal.specs.First.{Row, ◌gives◌, first_of}
 use Rattle.refusal.specs.declared.Refusal.TheVariants.{Rate, Size, History, Line}
 use Rattle.shape.specs.Shape.{Shape, shape, is_rate, is_count, rate_of, frame_length, lpc_order}
-use Rattle.decoder.specs.Ranges.{within, decoder_fits, plc_fits, cng_fits}
-use Rattle.decoder.specs.Settings.{is_squelch, settings_fit, squelched}
+use Rattle.decoder.specs.Ranges.{decoder_fits, plc_fits, cng_fits}
+use Rattle.decoder.specs.Settings.{settings_fit, squelched}
 use Rattle.decoder.specs.With.{with_settings}
 use Rattle.decoder.specs.Rows.{rate_row, size_row, history_row, coming_rows}
 use Rattle.decoder.specs.Reshape.{reshaped_by, reshaped}
-use Rattle.decoder.specs.Signals.{signal_number}
 use Rattle.decoder.specs.Outcome.{Outcome, Framed}
 use Rattle.decoder.specs.declared.Settings.{Settings}
 use Rattle.decoder.specs.declared.SilkDecoderState.{SilkDecoderState}
@@ -34,7 +33,7 @@ use Rattle.cng.specs.Noise.{cng_ready, heard_noise, sounded, sounding, comfort_n
 use Rattle.glue.specs.Glue.{glue_frames}
 use Rattle.decode_frame.specs.WholeFrame.{lined, remembered, resumed, lag_kept, finished, received, lost, muted, whole_frame}
 use Rattle.decode_frame.specs.Call.{Call, shape_at, state_at}
-use Rattle.decode_frame.specs.Answer.{frame_refusal, frame_outcome, frame_answer, frame_output}
+use Rattle.decode_frame.specs.Answer.{frame_refusal, frame_answer, frame_output}
 use Rattle.decode_frame.proofs.Noised.{glued}
 
 abbrev outcome_with : Settings → Outcome → Outcome

@@ -1,5 +1,5 @@
 -- Document 02, Note 3: what a squelch changes of whole-frame calls, and what it leaves.
-use Rattle.std.specs.Prelude.{◌≡◌, true, false, List, ◌++◌, ℤ, pos, drop, replicate}
+use Rattle.std.specs.Prelude.{◌≡◌, true, false, ◌++◌, ℤ, pos, drop, replicate}
 use Rattle.refusal.specs.declared.Refusal.TheVariants.{Nothing}
 use Rattle.shape.specs.Shape.{frame_length}
 use Rattle.decoder.specs.Settings.{is_squelch, squelched}
