@@ -1,10 +1,10 @@
 -- The filter from lines and that of a post's noise, in slices.
 use Prim.Native.Nat.{ℕ, ◌≤◌, ◌<◌, zero-le}
-use mathlib.Core.Path.{◌≡◌, refl, sym, ap, ◌∙◌}
-use mathlib.Core.Bool.{Bool, true, false, cond}
+use mathlib.Core.Path.{◌≡◌, sym, ap, ◌∙◌}
+use mathlib.Core.Bool.{true}
 use mathlib.Core.List.{List}
 use native.Mathlib.Omega.{arith}
-use lib.Dec.{leb, le→leb}
+use lib.Dec.{le→leb}
 use lib.IntN.{ℤ, pos, nat_abs}
 use lib.ListN.{length, get_or, take, drop, length-take}
 use lib.Seq.{get_or-take, length-take-le, take-take}
@@ -19,16 +19,15 @@ use Rattle.refusal.specs.declared.Refusal.{Refusal}
 use Rattle.refusal.specs.declared.Refusal.TheVariants.{Nothing}
 use Rattle.nlsf.specs.Filter.{nlsf2a_refusal}
 use Rattle.announcement.proofs.Taken.{any_order}
-use Rattle.shape.specs.Shape.{is_rate, rate_of, order_of}
+use Rattle.shape.specs.Shape.{is_rate, rate_of}
 use Rattle.shape.proofs.Shapes.{rates, rate_kept, order_two, order_le, rate_le}
 use Rattle.decoder.specs.Settings.{is_squelch, settings_fit}
-use Rattle.decoder.specs.declared.SilkCNGState.{SilkCNGState}
 use Rattle.decoder.proofs.Bounds.{Bounds, bounds}
-use Rattle.cng.specs.Noise.{cng_reset, cng_ready}
+use Rattle.cng.specs.Noise.{cng_ready}
 use Rattle.cng.proofs.Lines.{ready_held}
 use Rattle.cng.proofs.Kept.{ready_typed}
 use Rattle.cng.proofs.Filters.{announced}
-use Rattle.layout.specs.Layout.{part, one, state_in, cng_in, settings_in}
+use Rattle.layout.specs.Layout.{one, state_in, cng_in, settings_in}
 use Rattle.post_filters.specs.Calls.{filter_call}
 use Rattle.linked.specs.Linked.{Held, state_of}
 use Rattle.linked.specs.Claims.{FromAccepted}

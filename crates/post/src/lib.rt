@@ -30,12 +30,7 @@ fn set_up(
 }
 
 // Set-up with the default settings.
-pub fn post_set_up(
-    rate: i32,
-    subframes: i32,
-    words: &mut [i32],
-    halves: &mut [i16],
-) -> i32
+pub fn post_set_up(rate: i32, subframes: i32, words: &mut [i32], halves: &mut [i16]) -> i32
     ensures { record { answer = result; after = slices words.new halves.new [] [] [] [] }
         ≡ set_up_call rate subframes default_settings (slices words.old halves.old [] [] [] []) }
 {
@@ -99,12 +94,7 @@ pub fn post_core(
     code(stages::core(words, halves, frame, coefs, pulses, output))
 }
 
-pub fn post_plc_received(
-    words: &mut [i32],
-    halves: &mut [i16],
-    frame: &[i32],
-    coefs: &[i16],
-) -> i32
+pub fn post_plc_received(words: &mut [i32], halves: &mut [i16], frame: &[i32], coefs: &[i16]) -> i32
     ensures { record { answer = result; after = slices words.new halves.new frame.now coefs.now [] [] }
         ≡ plc_received_call (slices words.old halves.old frame.now coefs.now [] []) }
 {
@@ -129,12 +119,7 @@ pub fn post_plc_lost(
     code(stages::plc_lost(words, halves, frame, output))
 }
 
-pub fn post_glue(
-    words: &mut [i32],
-    halves: &mut [i16],
-    buffer: &mut [i16],
-    n: usize,
-) -> i32
+pub fn post_glue(words: &mut [i32], halves: &mut [i16], buffer: &mut [i16], n: usize) -> i32
     ensures { record { answer = result; after = slices words.new halves.new [] [] [] buffer.new }
         ≡ glue_call n (slices words.old halves.old [] [] [] buffer.old) }
 {

@@ -1,6 +1,6 @@
 -- What post_rising writes, and what it says of post_filter.
 use Prim.Native.Nat.{ℕ, ◌≤◌}
-use mathlib.Core.Path.{◌≡◌, refl, sym, ap, ◌∙◌}
+use mathlib.Core.Path.{◌≡◌, refl, ap}
 use mathlib.Core.Bool.{Bool, true, false, cond}
 use mathlib.Core.Logic.{◌⊎◌}
 use mathlib.Core.List.{List, ◌∷◌}
@@ -8,12 +8,11 @@ use native.Mathlib.Omega.{arith}
 use borrow.Author.Tests.{le-ltb}
 use lib.IntN.{ℤ, pos, nat_abs}
 use lib.ListN.{length, drop}
-use Rattle.refusal.specs.Refusals.{refusal_number}
-use Rattle.announcement.specs.Rising.{rising, rising_of}
+use Rattle.announcement.specs.Rising.{rising}
 use Rattle.announcement.proofs.Rises.{answered, exactly}
 use Rattle.announcement.proofs.Taken.{never_nine}
-use Rattle.post_filters.specs.Calls.{Called, called, filter_call, rising_call}
-use Rattle.post_filters.specs.Claims.{rise_in, RisingTold}
+use Rattle.post_filters.specs.Calls.{called, filter_call, rising_call}
+use Rattle.post_filters.specs.Claims.{RisingTold}
 
 call : (lines lent : List ℤ) (d : ℕ) → (d ≡ 10) ⊎ (d ≡ 16) → d ≤ length lines → 1 ≤ length lent → rising_call lines d lent ≡ record { answer = pos 0; slice = cond (rising lines d) (pos 1) (pos 0) ∷ drop 1 lent }
 unfolding rising_call called

@@ -22,12 +22,7 @@ fn put_letters(text: &mut [u8], letters: [u8; 64])
     }
 }
 
-pub fn post_stability(
-    coefficients: &[i16],
-    order: usize,
-    edition: i32,
-    answer: &mut [i32],
-) -> i32
+pub fn post_stability(coefficients: &[i16], order: usize, edition: i32, answer: &mut [i32]) -> i32
     ensures { record { answer = result; slice = answer.exit.now } ≡ stability_call coefficients.now order edition answer.entry.now }
 {
     if answer.len() < 2 {
@@ -44,12 +39,7 @@ pub fn post_stability(
     0
 }
 
-pub fn post_sentence(
-    coefficients: &[i16],
-    order: usize,
-    edition: i32,
-    text: &mut [u8],
-) -> i32
+pub fn post_sentence(coefficients: &[i16], order: usize, edition: i32, text: &mut [u8]) -> i32
     ensures { record { answer = result; slice = text.new } ≡ sentence_call coefficients.now order edition text.old }
 {
     if text.len() < 64 {
@@ -67,12 +57,7 @@ pub fn post_sentence(
     0
 }
 
-pub fn post_filter(
-    coefficients: &mut [i16],
-    lines: &[i16],
-    order: usize,
-    edition: i32,
-) -> i32
+pub fn post_filter(coefficients: &mut [i16], lines: &[i16], order: usize, edition: i32) -> i32
     ensures { record { answer = result; slice = coefficients.new } ≡ filter_call coefficients.old lines.now order edition }
 {
     code(silk_nlsf2a_under(coefficients, lines, order, edition))

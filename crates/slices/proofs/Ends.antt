@@ -9,11 +9,11 @@ use Rattle.refusal.specs.Refusals.{refusal_number, if_accepted}
 use Rattle.refusal.specs.declared.Refusal.{Refusal}
 use Rattle.decoder.specs.declared.SilkDecoderState.{SilkDecoderState}
 use Rattle.decoder.specs.declared.SilkDecoderControl.{SilkDecoderControl}
-use Rattle.decode_frame.specs.Answer.{frame_refusal, frame_answer, frame_output}
+use Rattle.decode_frame.specs.Answer.{frame_refusal}
 use Rattle.layout.specs.Layout.{with_words, with_halves}
 use Rattle.layout.specs.Frame.{frame_in, with_lags, with_taps}
 use Rattle.slices.specs.Slices.{Slices, slices, with_state, with_control}
-use Rattle.slices.specs.Whole.{refusal_in, played_on, answered}
+use Rattle.slices.specs.Whole.{refusal_in, answered}
 
 -- slices that are each a new one or the one lent are all of one kind
 together : (b : Bool) (x y : Slices)

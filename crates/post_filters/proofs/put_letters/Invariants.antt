@@ -1,13 +1,7 @@
 use Prim.Native.Nat.{◌-◌, ◌≤◌}
-use mathlib.Core.Path.{◌≡◌, refl}
+use mathlib.Core.Path.{◌≡◌}
 use mathlib.Core.List.{◌++◌}
-use native.Mathlib.Nat.{le_antisymm}
-use native.Mathlib.Numerals.{add-one}
-use native.Mathlib.Omega.{arith}
-use borrow.Author.Rules.{rules}
 use lib.ListN.{length, take, drop}
-use lib.Seq.{take_all}
-use Rattle.post_filters.proofs.Ends.{copied_more}
 use Rattle.post_filters.proofs.put_letters.Given as goal
 
 abbrev pub invariant-loop-i : goal.invariant-loop-i

@@ -1,5 +1,4 @@
 use mathlib.Core.Path.{sym, ◌∙◌}
-use borrow.Author.Rules.{rules}
 use Rattle.layout.proofs.Slices.{call_long}
 use Rattle.slices.specs.Slices.{slices}
 use Rattle.slices.specs.Whole.{answered}

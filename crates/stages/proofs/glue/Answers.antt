@@ -1,5 +1,5 @@
 use Prim.Native.Nat.{◌≤◌}
-use mathlib.Core.Path.{sym, ◌∙◌}
+use mathlib.Core.Path.{◌∙◌}
 use lib.ListN.{length}
 use Rattle.glue.specs.Answer.{glue_answer, glue_output}
 use Rattle.layout.specs.Layout.{WORDS, HALVES, state_in}

@@ -1,5 +1,5 @@
 use Prim.Native.Nat.{◌≤◌}
-use mathlib.Core.Path.{sym, ◌∙◌}
+use mathlib.Core.Path.{◌∙◌}
 use lib.ListN.{length}
 use Rattle.cng.specs.Answer.{cng_answer, cng_output}
 use Rattle.layout.specs.Layout.{WORDS, HALVES, state_in}

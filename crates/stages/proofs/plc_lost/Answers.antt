@@ -1,9 +1,8 @@
 use Prim.Native.Nat.{◌≤◌}
 use mathlib.Core.List.{[]}
-use mathlib.Core.Path.{sym, ◌∙◌}
-use lib.IntN.{pos}
+use mathlib.Core.Path.{◌∙◌}
 use lib.ListN.{length}
-use Rattle.refusal.specs.Refusals.{refusal_number, if_accepted}
+use Rattle.refusal.specs.Refusals.{if_accepted}
 use Rattle.plc.specs.Answer.{plc_lost, plc_lost_output}
 use Rattle.layout.specs.Layout.{WORDS, HALVES, state_in, with_words, with_halves}
 use Rattle.layout.specs.Frame.{FRAME, tapless, with_lags}

@@ -1,5 +1,5 @@
 use Prim.Native.Nat.{◌≤◌}
-use mathlib.Core.Path.{sym, ◌∙◌}
+use mathlib.Core.Path.{◌∙◌}
 use lib.ListN.{length}
 use mir.Facts.{to_z-of_z}
 use Rattle.decoder.specs.SetUp.{set_up_with}
