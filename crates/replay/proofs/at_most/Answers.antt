@@ -5,7 +5,6 @@ use lib.IntN.{ℤ}
 use mir.Facts.{to_z-of_z}
 use Rattle.word.specs.Int.{mod_ℤ}
 use native.Mathlib.Nat.{min-eq_left, min-eq_right}
-use borrow.Author.Rules.{rules}
 use Rattle.replay.proofs.at_most.Goals as goal
 
 pub returns-then-m-most : goal.returns-then-m-most

@@ -1,7 +1,6 @@
 use mir.Facts.{to_z-of_z}
 use lib.Seq.{length-take-le}
 use mathlib.Core.Path.{sym}
-use borrow.Author.Rules.{rules}
 use Rattle.replay.proofs.front32.Goals as goal
 
 pub slice_bounds-result-end : goal.slice_bounds-result-end

@@ -3,7 +3,7 @@ use mathlib.Core.Path.{◌≡◌, sym, ap, ◌∙◌}
 use native.Mathlib.Omega.{arith}
 use borrow.Author.Rules.{rules}
 use lib.IntN.{ℤ, pos}
-use lib.ListN.{length, get_or, take, drop, length-drop}
+use lib.ListN.{length, get_or, drop, length-drop}
 use lib.Seq.{length-take-le}
 use mir.Syntax.{w32}
 use Rattle.word.specs.Int.{mod_ℤ}
@@ -14,7 +14,7 @@ use Rattle.replay.proofs.put32.Goals.{Then-room}
 use Rattle.replay.proofs.put32.Goals as goal
 
 -- the numbers lie in the row and in the slice
-placed : (c : Then-room) →  let a = c.args in (2 ≤ a.count) × (a.count ≤ 64) × (c.size-at.result + (a.count - 2) ≤ length a.to.now)
+placed : (c : Then-room) → let a = c.args in (2 ≤ a.count) × (a.count ≤ 64) × (c.size-at.result + (a.count - 2) ≤ length a.to.now)
 placed c = fits _ _ _ (sym c.room.ensures ∙ c.if-room.true)
 
 pub slice_bounds-copy32_at-count : goal.slice_bounds-copy32_at-count

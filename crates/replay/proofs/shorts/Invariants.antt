@@ -1,18 +1,10 @@
-use Prim.Native.Nat.{ℕ, ◌-◌, ◌≤◌}
-use mathlib.Core.Path.{◌≡◌, refl}
-use mathlib.Core.List.{◌++◌, append-nil}
-use native.Mathlib.Nat.{le_antisymm}
-use native.Mathlib.Numerals.{add-one}
-use native.Mathlib.Omega.{arith}
+use Prim.Native.Nat.{◌-◌, ◌≤◌}
+use mathlib.Core.Path.{◌≡◌}
+use mathlib.Core.List.{◌++◌}
 use lib.IntN.{pos}
 use lib.ListN.{length, get_or, drop, replicate}
-use mir.Syntax.{w16, w32}
 use Rattle.word.specs.Int.{wrap16}
 use Rattle.word.specs.Tabulate.{tabulate}
-use Rattle.word.proofs.Lists.{tabulate-more}
-use Rattle.word.proofs.Words.{kept}
-use Rattle.replay.specs.Put.{shorts}
-use borrow.Author.Rules.{rules}
 use Rattle.replay.proofs.shorts.Given as goal
 
 abbrev pub invariant-loop-i : goal.invariant-loop-i

@@ -3,7 +3,6 @@ use Rattle.word.specs.Int.{mod_ℤ}
 use lib.IntN.{ℤ}
 use Prim.Native.Nat.{◌^◌}
 use mathlib.Core.Path.{ap, ◌∙◌}
-use borrow.Author.Rules.{rules}
 use Rattle.replay.proofs.size.Goals as goal
 
 pub returns : goal.returns
