@@ -1,7 +1,7 @@
 -- The search names the smallest place, or none exactly if there is none.
 use Prim.Native.Nat.{ℕ, zero, suc, ◌+◌, ◌≤◌, ◌<◌}
-use mathlib.Core.Path.{◌≡◌, refl, sym, ap, ◌∙◌}
-use mathlib.Core.Bool.{Bool, true, false, cond, false≢true}
+use mathlib.Core.Path.{◌≡◌, refl, ap, ◌∙◌}
+use mathlib.Core.Bool.{Bool, true, false, cond}
 use mathlib.Core.List.{List}
 use native.Mathlib.Omega.{arith}
 use borrow.Author.Tests.{eqb-true, eqb-false, eq-eqb}
@@ -14,8 +14,7 @@ use Rattle.culprit.specs.Search.{first_from}
 use Rattle.culprit.specs.declared.Culprit.{Culprit}
 use Rattle.culprit.specs.declared.Culprit.TheVariants.{Frame, None}
 use Rattle.single_loss.specs.Answer.{loss_refusal, culprit_at, loss_answer}
-use Rattle.single_loss.specs.Claims.{Smallest, Means, AnswerMeans, NoneExactly}
-use Rattle.single_loss.specs.declared.Answer.{Answer}
+use Rattle.single_loss.specs.Claims.{Means, AnswerMeans, NoneExactly}
 use Rattle.single_loss.specs.declared.Answer.TheVariants.{Refused, Found}
 
 -- the first of n places from k on where f holds, as a number counted from 1

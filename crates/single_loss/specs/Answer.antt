@@ -8,7 +8,6 @@ use Rattle.recording.specs.Frames.{rate_in, count_in, frames_in}
 use Rattle.recording.specs.Reading.{read_refusal}
 use Rattle.playback.specs.Playback.{start_of}
 use Rattle.culprit.specs.Search.{passes, is_culprit, first_from}
-use Rattle.culprit.specs.declared.Culprit.{Culprit}
 use Rattle.single_loss.specs.declared.Answer.{Answer}
 use Rattle.single_loss.specs.declared.Answer.TheVariants.{Refused, Found}
 

@@ -1,9 +1,8 @@
-use mathlib.Core.Path.{◌≡◌, refl, sym, ap, ◌∙◌}
+use mathlib.Core.Path.{ap, ◌∙◌}
 use mir.Facts.{to_z-of_z}
 use Rattle.decoder.specs.SetUp.{set_up_with}
 use Rattle.decoder.specs.declared.StateAnswer.{StateAnswer}
 use Rattle.playback.specs.Playback.{plain}
-use borrow.Author.Rules.{rules}
 use Rattle.single_loss.proofs.post_for.Goals as goal
 
 pub returns : goal.returns
