@@ -2,7 +2,7 @@
 use Prim.Native.Nat.{ℕ, zero, suc, ◌+◌, ◌-◌, ◌*◌, ◌≤◌, ◌<◌}
 use mathlib.Core.Path.{◌≡◌, refl, sym, ap, ◌∙◌}
 use mathlib.Core.Bool.{Bool, true, false, cond, ◌&&◌, ◌||◌, false≢true}
-use mathlib.Core.List.{List, [], ◌∷◌, ◌++◌, map}
+use mathlib.Core.List.{List, [], ◌∷◌, map}
 use native.Mathlib.Omega.{arith}
 use lib.Dec.{eqb}
 use lib.IntN.{ℤ}
@@ -19,7 +19,6 @@ use Rattle.heard.specs.Loud.{any_beyond, heard_of}
 use Rattle.heard.specs.declared.Heard.{Heard}
 use Rattle.heard.proofs.Laws.{beyond-append}
 use Rattle.culprit.specs.Search.{losing, was_received, passes, is_culprit, first_from}
-use Rattle.culprit.specs.declared.Culprit.{Culprit}
 use Rattle.culprit.specs.declared.Culprit.TheVariants.{Frame, None}
 
 split : (a b : Bool) → (a || b) ≡ false → (a ≡ false) × (b ≡ false)

@@ -44,6 +44,7 @@ pub fn begin(bytes: &mut [u8], rate: i32, subframes: i32) -> Refusal
     refusal
 }
 
+#[tactic(auto, unfolding(crate::specs::Writing::has_room))]
 fn has_room(bytes: usize, frames: usize) -> bool
     ensures { result ≡ has_room bytes frames }
 {

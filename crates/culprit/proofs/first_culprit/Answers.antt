@@ -1,10 +1,10 @@
-use Prim.Native.Nat.{ℕ, ◌+◌, ◌*◌, ◌-◌, ◌≤◌}
-use mathlib.Core.Path.{◌≡◌, refl, sym, ap, ◌∙◌}
-use mathlib.Core.Bool.{Bool, false, ◌&&◌}
+use Prim.Native.Nat.{ℕ, ◌+◌, ◌-◌}
+use mathlib.Core.Path.{◌≡◌, sym, ap, ◌∙◌}
+use mathlib.Core.Bool.{false, ◌&&◌}
 use mathlib.Core.List.{List, ◌∷◌, map}
 use native.Mathlib.Nat.{le_antisymm}
 use lib.IntN.{ℤ}
-use lib.ListN.{length, get_or, take, drop}
+use lib.ListN.{get_or, take, drop}
 use mir.Syntax.{w32}
 use mir.Val.{to_z, of_z}
 use mir.Facts.{to_z-of_z}
@@ -15,7 +15,7 @@ use Rattle.playback.specs.Playback.{call_of, sound_of}
 use Rattle.heard.specs.Loud.{heard_of}
 use Rattle.heard.specs.declared.Heard.{Heard}
 use Rattle.culprit.specs.Search.{was_received, passes, is_culprit, first_from}
-use Rattle.culprit.proofs.Laws.{state_at, state_first, state_on, culprit_is, first-start, first_here, first_later, first-none}
+use Rattle.culprit.proofs.Laws.{state_first, state_on, culprit_is, first-start, first_here, first_later, first-none}
 use borrow.Author.Rules.{rules}
 use Rattle.culprit.proofs.first_culprit.Goals.{After-is_culprit}
 use Rattle.culprit.proofs.first_culprit.Goals as goal

@@ -1,12 +1,10 @@
 use Prim.Native.Nat.{ℕ}
 use mathlib.Core.Path.{◌≡◌, sym, ap, ◌∙◌}
-use mathlib.Core.Bool.{Bool, ◌&&◌}
 use lib.ListN.{get_or}
 use mir.Facts.{to_z-of_z}
 use Rattle.recording.specs.Frames.{recorded_at}
 use Rattle.culprit.specs.Search.{was_received}
 use Rattle.culprit.proofs.Laws.{and_true, and_false}
-use borrow.Author.Rules.{rules}
 use Rattle.culprit.proofs.is_culprit.Goals.{After-was_received}
 use Rattle.culprit.proofs.is_culprit.Goals as goal
 

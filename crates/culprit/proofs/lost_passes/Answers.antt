@@ -1,5 +1,5 @@
 use Prim.Native.Nat.{◌+◌}
-use mathlib.Core.Path.{◌≡◌, sym, ap, ◌∙◌}
+use mathlib.Core.Path.{◌≡◌, sym, ◌∙◌}
 use mathlib.Core.Bool.{◌||◌}
 use mathlib.Core.List.{List, ◌∷◌, map}
 use lib.IntN.{ℤ}
@@ -11,7 +11,6 @@ use Rattle.record.specs.Recorded.{Recorded, lost}
 use Rattle.recording.specs.Frames.{recorded_at}
 use Rattle.culprit.specs.Search.{passes}
 use Rattle.culprit.proofs.Laws.{heard-step, or_true, or_false}
-use borrow.Author.Rules.{rules}
 use Rattle.culprit.proofs.lost_passes.Goals.{After-lost_heard-h}
 use Rattle.culprit.proofs.lost_passes.Goals as goal
 

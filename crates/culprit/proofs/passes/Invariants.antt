@@ -1,20 +1,9 @@
-use Prim.Native.Nat.{ℕ, ◌+◌, ◌*◌, ◌-◌, ◌≤◌, ◌<◌}
-use mathlib.Core.Path.{◌≡◌, refl, sym, ap, ◌∙◌}
-use mathlib.Core.Bool.{◌||◌}
+use Prim.Native.Nat.{◌-◌, ◌≤◌}
+use mathlib.Core.Path.{◌≡◌}
 use mathlib.Core.List.{map}
-use lib.IntN.{ℤ}
-use native.Mathlib.Nat.{le_antisymm}
-use lib.ListN.{length, get_or, take, drop}
-use mir.Syntax.{w32}
-use mir.Val.{to_z, of_z}
-use mir.Facts.{to_z-of_z}
-use Rattle.record.specs.Recorded.{Recorded}
+use lib.ListN.{take, drop}
 use Rattle.recording.specs.Frames.{recorded_at}
-use Rattle.playback.specs.Playback.{call_of}
-use Rattle.heard.specs.Loud.{heard_of}
 use Rattle.culprit.specs.Search.{passes}
-use Rattle.culprit.proofs.Laws.{frames-step, frames_done, or_true, or_false}
-use borrow.Author.Rules.{rules}
 use Rattle.culprit.proofs.passes.Given as goal
 
 abbrev pub invariant-loop-k : goal.invariant-loop-k

@@ -1,6 +1,5 @@
 use mathlib.Core.Path.{sym}
 use Rattle.culprit.proofs.Laws.{kind_at}
-use borrow.Author.Rules.{rules}
 use Rattle.culprit.proofs.was_received.Goals as goal
 
 pub returns : goal.returns
