@@ -130,30 +130,6 @@ module _ (khz : ℤ) (e : is_rate khz ≡ true) (held : ℤ) (r : ℕ) (is : hel
   cng-any : (h : SilkCNGState) → OwnRate held h.fs_khz → CngBounds r h → CngBounds (rate_of khz) h
   cng-any h o b k = let q = same-rate o k in subst (λ (r : ℕ). CngHeldBounds r h) q.1 (b q.0)
 
-decoder_any : (khz nb : ℤ) (s : SilkDecoderState) (b : Bool) → eq_ℤ khz s.fs_khz ≡ b → is_rate khz ≡ true → AllBetween 0 32767 s.prev_nlsf_q15 16 → DecoderBounds (rate_of s.fs_khz) s
-    → DecoderBounds (rate_of khz) (reshaped_by b khz nb s)
-unfolding reshaped_by
-decoder_any khz nb s true z e l d =
-    subst (λ (x : ℤ). DecoderBounds (rate_of x) (reshaped_by true x nb s)) (sym (eq_ℤ_true khz s.fs_khz z))
-    (record {
-      loss_cnt = d.loss_cnt;
-      lag_prev = d.lag_prev;
-      prev_signal_type = d.prev_signal_type;
-      prev_gain_q16 = d.prev_gain_q16;
-      first_frame_after_reset = d.first_frame_after_reset;
-      prev_nlsf_q15 = d.prev_nlsf_q15;
-    })
-decoder_any khz nb s false z e l d =
-    let q = rate_range (rates khz e) in
-    record {
-      loss_cnt = d.loss_cnt;
-      lag_prev = λ k. in_range (2 * rate_of khz) (18 * rate_of khz) 100 (omega (arith, q.1)) (omega (arith, q.0));
-      prev_signal_type = in_range 0 2 0 (lit≤ tt) (lit≤ tt);
-      prev_gain_q16 = d.prev_gain_q16;
-      first_frame_after_reset = in_range 0 1 1 (lit≤ tt) (lit≤ tt);
-      prev_nlsf_q15 = λ i k. l i (le_trans k (order_le (rate_of khz)));
-    }
-
 -- row 3 applies at no coming shape
 pub any_shape : (khz nb : ℤ) (s : SilkDecoderState) → Accepted (rate_of s.fs_khz) s → Own s → is_rate khz ≡ true → history_row (rate_of khz) (reshaped khz nb s) ≡ false
 unfolding reshaped reshaped_by
@@ -163,3 +139,26 @@ any_shape khz nb s a o e =
     (plc-any khz e s.fs_khz (rate_of s.fs_khz) b.sizes.fs_khz s.s_plc o.plc b.plc)
     (cng-any khz e s.fs_khz (rate_of s.fs_khz) b.sizes.fs_khz s.s_cng o.cng b.cng)
     b.settings
+  where
+    decoder_any : (khz nb : ℤ) (s : SilkDecoderState) (b : Bool) → eq_ℤ khz s.fs_khz ≡ b → is_rate khz ≡ true → AllBetween 0 32767 s.prev_nlsf_q15 16 → DecoderBounds (rate_of s.fs_khz) s
+        → DecoderBounds (rate_of khz) (reshaped_by b khz nb s)
+    decoder_any khz nb s true z e l d =
+        subst (λ (x : ℤ). DecoderBounds (rate_of x) (reshaped_by true x nb s)) (sym (eq_ℤ_true khz s.fs_khz z))
+        (record {
+          loss_cnt = d.loss_cnt;
+          lag_prev = d.lag_prev;
+          prev_signal_type = d.prev_signal_type;
+          prev_gain_q16 = d.prev_gain_q16;
+          first_frame_after_reset = d.first_frame_after_reset;
+          prev_nlsf_q15 = d.prev_nlsf_q15;
+        })
+    decoder_any khz nb s false z e l d =
+        let q = rate_range (rates khz e) in
+        record {
+          loss_cnt = d.loss_cnt;
+          lag_prev = λ k. in_range (2 * rate_of khz) (18 * rate_of khz) 100 (omega (arith, q.1)) (omega (arith, q.0));
+          prev_signal_type = in_range 0 2 0 (lit≤ tt) (lit≤ tt);
+          prev_gain_q16 = d.prev_gain_q16;
+          first_frame_after_reset = in_range 0 1 1 (lit≤ tt) (lit≤ tt);
+          prev_nlsf_q15 = λ i k. l i (le_trans k (order_le (rate_of khz)));
+        }

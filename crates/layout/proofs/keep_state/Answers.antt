@@ -2,11 +2,6 @@ use mathlib.Core.Path.{sym, ◌∙◌}
 use borrow.Author.Tests.{eq-eqb, ne_eqb}
 use Rattle.layout.proofs.keep_state.Goals as goal
 
-pub returns-then-number-ne0 : goal.returns-then-number-ne0
-returns-then-number-ne0 c =
-    let e = ne_eqb _ 0 (λ z. c.if-number-ne0.true (c.number.ensures ∙ z)) in
-    (rw e, rw e)
-
 pub returns : goal.returns
 returns c =
     let e = eq-eqb _ 0 (sym c.number.ensures ∙ c.if-number-ne0.false) in
