@@ -1,6 +1,7 @@
 -- Laws that other proofs cite.
 pub mod Tests
 pub mod Ends
+pub mod Held
 pub mod Between
 pub mod Bounds
 pub mod Types

@@ -468,6 +468,7 @@ fn with_shape(s: SilkDecoderState, khz: i32, nb_subfr: i32) -> SilkDecoderState
 }
 
 // The state as a coming rate and count of subframes leave it.
+#[tactic(auto, using(crate::proofs::Held::held_rate))]
 pub fn reshaped(s: SilkDecoderState, khz: i32, nb_subfr: i32) -> SilkDecoderState
     ensures { result ≡ reshaped khz nb_subfr s }
 {

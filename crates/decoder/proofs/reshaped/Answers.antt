@@ -6,7 +6,6 @@ use mir.Val.{to_z, of_z}
 use mir.Facts.{to_z-of_z}
 use Rattle.word.specs.Int.{eq_ℤ}
 use Rattle.word.proofs.Order.{eq_ℤ_refl, eq_ℤ_ne}
-use Rattle.word.proofs.Words.{kept}
 use Rattle.decoder.specs.With.{with_memory, with_out_buf, with_lag, with_first, with_type, with_shape}
 use Rattle.decoder.specs.Reshape.{reshaped, reshaped_by}
 use Rattle.decoder.proofs.reshaped.Goals.{After-with_shape-t}
@@ -16,15 +15,6 @@ use Rattle.decoder.proofs.reshaped.Goals as goal
 sized : (c : After-with_shape-t) → let a = c.args in c.with_shape-t.result ≡ with_shape a.s a.khz a.nb_subfr
 sized c =
     c.with_shape-t.ensures ∙ λ i. with_shape c.args.s (to_z-of_z c.ranges.khz i) (to_z-of_z c.ranges.nb_subfr i)
-
-pub returns-then-khz-s : goal.returns-then-khz-s
-unfolding reshaped reshaped_by
-returns-then-khz-s c =
-    let s = c.args.s in
-    let k = c.args.khz in
-    let e : k ≡ s.fs_khz =
-    sym (to_z-of_z c.ranges.khz) ∙ ap (to_z w32) c.if-khz-s.true ∙ kept w32 s.fs_khz c.struct_told-1.given.1.1.1.1.1.0.1 in
-    sized c.before.before.before ∙ ap (λ (x : Bool). reshaped_by x k c.args.nb_subfr s) (sym (ap (λ (z : ℤ). eq_ℤ z s.fs_khz) e ∙ eq_ℤ_refl s.fs_khz))
 
 pub returns : goal.returns
 unfolding reshaped reshaped_by
