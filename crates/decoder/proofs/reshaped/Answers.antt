@@ -1,11 +1,10 @@
 use mathlib.Core.Path.{◌≡◌, sym, ap, ◌∙◌}
 use mathlib.Core.Bool.{Bool}
-use lib.IntN.{ℤ, pos}
+use lib.IntN.{pos}
 use mir.Syntax.{w32}
-use mir.Val.{to_z, of_z}
+use mir.Val.{of_z}
 use mir.Facts.{to_z-of_z}
-use Rattle.word.specs.Int.{eq_ℤ}
-use Rattle.word.proofs.Order.{eq_ℤ_refl, eq_ℤ_ne}
+use Rattle.word.proofs.Order.{eq_ℤ_ne}
 use Rattle.decoder.specs.With.{with_memory, with_out_buf, with_lag, with_first, with_type, with_shape}
 use Rattle.decoder.specs.Reshape.{reshaped, reshaped_by}
 use Rattle.decoder.proofs.reshaped.Goals.{After-with_shape-t}
