@@ -4,7 +4,7 @@
  * functions of filters (target/staticlib/libpost_filters.a) and `tools/staticlib post_load` those of the
  * load (target/staticlib/libpost_load.a); any of the archives may be linked, alone or with others. They
  * are for x86-64 Linux alone. They call memcpy and memset and nothing else, and have no variables of
- * their own: calls on different states may run at the same time. A call takes up to 31,496 bytes of
+ * their own: calls on different states may run at the same time. A call takes up to 39,672 bytes of
  * stack (docs/BENCHMARKS.md).
  *
  * A slice is a pointer and the count of its elements. The slices of one call may not overlap, not
