@@ -1,7 +1,7 @@
 // Answers each line of standard input: a leap, the draws that undo others, or a frame of a load.
 #![tactic(auto)]
 
-ghost use Rattle.std.specs.Prelude.{◌≡◌, pos, replicate};
+ghost use Rattle.std.specs.Prelude.{◌≡◌, pos, replicate, ◌≤◌, IfOk, length};
 
 use checksum::{sum16, sum32};
 use decoder::signal_number;
@@ -123,8 +123,23 @@ fn run(rt: &impl Print, text: &[u8]) -> io::Result<()> {
 }
 
 // At most 65,536 bytes are read.
+// Fills the buffer as far as the input goes, and answers how many bytes it took.
+fn read_full(input: &mut impl Read, buffer: &mut [u8]) -> io::Result<usize>
+    ensures { IfOk result (λ n. n ≤ length buffer.new) }
+{
+    let mut n = 0;
+    for _ in 0..buffer.len() {
+        let k = input.read(&mut buffer[n..])?;
+        if k == 0 {
+            break;
+        }
+        n += k;
+    }
+    Ok(n)
+}
+
 fn main(rt: HostRuntime) -> io::Result<()> {
-    let mut text = Vec::new(rt.alloc());
-    rt.stdin().take(65536).read_to_end(&mut text)?;
-    run(&rt, text.as_slice())
+    let mut text = [0u8; 65536];
+    let n = read_full(&mut rt.stdin(), &mut text)?;
+    run(&rt, &text[..n])
 }

@@ -2,7 +2,7 @@
 // whose last line counts the frames, or says why nothing is played.
 #![tactic(auto)]
 
-ghost use Rattle.std.specs.Prelude.{◌≡◌, ◌≤◌, length};
+ghost use Rattle.std.specs.Prelude.{◌≡◌, ◌≤◌, length, IfOk};
 
 use le::put16s;
 use playback::play;
@@ -69,8 +69,23 @@ fn play_bytes(out: &mut impl Write, err: &mut impl Write, bytes: &[u8]) -> io::R
 }
 
 // At most 65,536 bytes are read.
+// Fills the buffer as far as the input goes, and answers how many bytes it took.
+fn read_full(input: &mut impl Read, buffer: &mut [u8]) -> io::Result<usize>
+    ensures { IfOk result (λ n. n ≤ length buffer.new) }
+{
+    let mut n = 0;
+    for _ in 0..buffer.len() {
+        let k = input.read(&mut buffer[n..])?;
+        if k == 0 {
+            break;
+        }
+        n += k;
+    }
+    Ok(n)
+}
+
 fn main(rt: HostRuntime) -> io::Result<()> {
-    let mut bytes = Vec::new(rt.alloc());
-    rt.stdin().take(65536).read_to_end(&mut bytes)?;
-    play_bytes(&mut rt.stdout(), &mut rt.stderr(), bytes.as_slice())
+    let mut bytes = [0u8; 65536];
+    let n = read_full(&mut rt.stdin(), &mut bytes)?;
+    play_bytes(&mut rt.stdout(), &mut rt.stderr(), &bytes[..n])
 }

@@ -1,7 +1,7 @@
 // Makes the calls that standard input lists, and writes each one's answer and the sum of all that a call can write.
 #![tactic(auto)]
 
-ghost use Rattle.std.specs.Prelude.{◌≡◌, ◌≤◌, ◌^◌, min, pos, length, replicate, get_or, take};
+ghost use Rattle.std.specs.Prelude.{◌≡◌, ◌≤◌, ◌^◌, min, pos, length, replicate, get_or, take, IfOk};
 ghost use Rattle.word.specs.Int.{mod_ℤ};
 ghost use Rattle.replay.specs.Put.{room, shorts, put};
 ghost use Rattle.replay.specs.Sum.{sum_all};
@@ -590,10 +590,30 @@ fn replayed(rt: &impl Print, r: Run, text: &[u8]) -> io::Result<Run> {
 }
 
 // At most 4,194,304 bytes are read.
+// Fills the buffer as far as the input goes, and answers how many bytes it took.
+fn read_full(input: &mut impl Read, buffer: &mut [u8]) -> io::Result<usize>
+    ensures { IfOk result (λ n. n ≤ length buffer.new) }
+{
+    let mut n = 0;
+    for _ in 0..buffer.len() {
+        let k = input.read(&mut buffer[n..])?;
+        if k == 0 {
+            break;
+        }
+        n += k;
+    }
+    Ok(n)
+}
+
 fn main(rt: HostRuntime) -> io::Result<()> {
-    let mut text = Vec::new(rt.alloc());
-    rt.stdin().take(4194304).read_to_end(&mut text)?;
-    let r = replayed(&rt, started(), text.as_slice())?;
+    let mut text = [0u8; 65536];
+    let mut input = rt.stdin();
+    let mut r = started();
+    // At most 64 parts of 65,536 bytes are read.
+    for _ in 0..64u8 {
+        let n = read_full(&mut input, &mut text)?;
+        r = replayed(&rt, r, &text[..n])?;
+    }
     let calls = r.calls;
     println!(rt; "{calls} calls")
 }

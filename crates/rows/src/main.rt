@@ -1,6 +1,8 @@
 // Runs the judges over the cases of standard input: each end of each range of document 01 from inside and from outside.
 #![tactic(auto)]
 
+ghost use Rattle.std.specs.Prelude.{◌≤◌, IfOk, length};
+
 use decoder::{
     Frame, Params, Settings, Signal, SilkCNGState, SilkDecoderControl, SilkDecoderState,
     SilkPLCState, set_up, set_up_with, signal_of,
@@ -645,10 +647,25 @@ fn run(rt: &impl Print, text: &[u8]) -> io::Result<Tally> {
 }
 
 // At most 65,536 bytes are read.
+// Fills the buffer as far as the input goes, and answers how many bytes it took.
+fn read_full(input: &mut impl Read, buffer: &mut [u8]) -> io::Result<usize>
+    ensures { IfOk result (λ n. n ≤ length buffer.new) }
+{
+    let mut n = 0;
+    for _ in 0..buffer.len() {
+        let k = input.read(&mut buffer[n..])?;
+        if k == 0 {
+            break;
+        }
+        n += k;
+    }
+    Ok(n)
+}
+
 fn main(rt: HostRuntime) -> io::Result<()> {
-    let mut text = Vec::new(rt.alloc());
-    rt.stdin().take(65536).read_to_end(&mut text)?;
-    let t = run(&rt, text.as_slice())?;
+    let mut text = [0u8; 65536];
+    let n = read_full(&mut rt.stdin(), &mut text)?;
+    let t = run(&rt, &text[..n])?;
     let passed = t.passed;
     let failed = t.failed;
     println!(rt; "{passed} passed, {failed} failed")
