@@ -1,10 +1,8 @@
-use Prim.Native.Nat.{◌≤◌}
 use mathlib.Core.Path.{◌∙◌}
 use native.Mathlib.Omega.{arith}
-use lib.ListN.{length}
 use Rattle.decode_core.specs.Answer.{core_answer, core_output}
-use Rattle.layout.specs.Layout.{WORDS, HALVES, state_in}
-use Rattle.layout.specs.Frame.{FRAME, COEFS, params_in, control_in, rows_in}
+use Rattle.layout.specs.Layout.{state_in}
+use Rattle.layout.specs.Frame.{params_in, control_in, rows_in}
 use Rattle.layout.proofs.Slices.{call_long}
 use Rattle.slices.proofs.Ends.{again, control_ended}
 use Rattle.stages.specs.Stages.{core_on}
@@ -12,38 +10,31 @@ use Rattle.stages.proofs.core.Goals as goal
 
 pub state_in-s-requires : goal.state_in-s-requires
 state_in-s-requires c =
-    let long : (WORDS ≤ length c.args.words.now) × (HALVES ≤ length c.args.halves.now) × (FRAME ≤ length c.args.frame.now) × (COEFS ≤ length c.args.coefs.now) = call_long (length c.args.words.now) (length c.args.halves.now) (length c.args.frame.now) (length c.args.coefs.now) c.requires in
-    let l = long in (l.0, l.1)
+    let l = call_long _ _ _ _ c.requires in (l.0, l.1)
 
 pub params_in-q-requires : goal.params_in-q-requires
 params_in-q-requires c =
-    let long : (WORDS ≤ length c.args.words.now) × (HALVES ≤ length c.args.halves.now) × (FRAME ≤ length c.args.frame.now) × (COEFS ≤ length c.args.coefs.now) = call_long (length c.args.words.now) (length c.args.halves.now) (length c.args.frame.now) (length c.args.coefs.now) c.requires in
-    long.2
+    (call_long _ _ _ _ c.requires).2
 
 pub control_in-c-requires : goal.control_in-c-requires
 control_in-c-requires c =
-    let long : (WORDS ≤ length c.args.words.now) × (HALVES ≤ length c.args.halves.now) × (FRAME ≤ length c.args.frame.now) × (COEFS ≤ length c.args.coefs.now) = call_long (length c.args.words.now) (length c.args.halves.now) (length c.args.frame.now) (length c.args.coefs.now) c.requires in
-    let l = long in (l.2, omega (arith, l.3))
+    let l = call_long _ _ _ _ c.requires in (l.2, omega (arith, l.3))
 
 pub rows_in-rows-requires : goal.rows_in-rows-requires
 rows_in-rows-requires c =
-    let long : (WORDS ≤ length c.args.words.now) × (HALVES ≤ length c.args.halves.now) × (FRAME ≤ length c.args.frame.now) × (COEFS ≤ length c.args.coefs.now) = call_long (length c.args.words.now) (length c.args.halves.now) (length c.args.frame.now) (length c.args.coefs.now) c.requires in
-    long.3
+    (call_long _ _ _ _ c.requires).3
 
 pub keep_state-requires : goal.keep_state-requires
 keep_state-requires c =
-    let long : (WORDS ≤ length c.args.words.now) × (HALVES ≤ length c.args.halves.now) × (FRAME ≤ length c.args.frame.now) × (COEFS ≤ length c.args.coefs.now) = call_long (length c.args.words.now) (length c.args.halves.now) (length c.args.frame.now) (length c.args.coefs.now) c.requires in
-    let l = long in (l.0, l.1)
+    let l = call_long _ _ _ _ c.requires in (l.0, l.1)
 
 pub keep_lags-requires : goal.keep_lags-requires
 keep_lags-requires c =
-    let long : (WORDS ≤ length c.args.words.now) × (HALVES ≤ length c.args.halves.now) × (FRAME ≤ length c.args.frame.now) × (COEFS ≤ length c.args.coefs.now) = call_long (length c.args.words.now) (length c.args.halves.now) (length c.args.frame.now) (length c.args.coefs.now) c.requires in
-    long.2
+    (call_long _ _ _ _ c.requires).2
 
 pub keep_taps-requires : goal.keep_taps-requires
 keep_taps-requires c =
-    let long : (WORDS ≤ length c.args.words.now) × (HALVES ≤ length c.args.halves.now) × (FRAME ≤ length c.args.frame.now) × (COEFS ≤ length c.args.coefs.now) = call_long (length c.args.words.now) (length c.args.halves.now) (length c.args.frame.now) (length c.args.coefs.now) c.requires in
-    long.3
+    (call_long _ _ _ _ c.requires).3
 
 pub shape_of-words : goal.shape_of-words
 shape_of-words c = c.keep_state.auto.words

@@ -1,9 +1,7 @@
-use Prim.Native.Nat.{◌≤◌}
 use mathlib.Core.Path.{◌∙◌}
-use lib.ListN.{length}
 use Rattle.cng.specs.Answer.{cng_answer, cng_output}
-use Rattle.layout.specs.Layout.{WORDS, HALVES, state_in}
-use Rattle.layout.specs.Frame.{FRAME, tapless}
+use Rattle.layout.specs.Layout.{state_in}
+use Rattle.layout.specs.Frame.{tapless}
 use Rattle.layout.proofs.Slices.{frame-long}
 use Rattle.slices.proofs.Ends.{again, state_ended}
 use Rattle.stages.specs.Stages.{noise_on}
@@ -11,18 +9,15 @@ use Rattle.stages.proofs.noise.Goals as goal
 
 pub state_in-s-requires : goal.state_in-s-requires
 state_in-s-requires c =
-    let long : (WORDS ≤ length c.args.words.now) × (HALVES ≤ length c.args.halves.now) × (FRAME ≤ length c.args.frame.now) = frame-long (length c.args.words.now) (length c.args.halves.now) (length c.args.frame.now) c.requires in
-    let l = long in (l.0, l.1)
+    let l = frame-long _ _ _ c.requires in (l.0, l.1)
 
 pub tapless-c-requires : goal.tapless-c-requires
 tapless-c-requires c =
-    let long : (WORDS ≤ length c.args.words.now) × (HALVES ≤ length c.args.halves.now) × (FRAME ≤ length c.args.frame.now) = frame-long (length c.args.words.now) (length c.args.halves.now) (length c.args.frame.now) c.requires in
-    long.2
+    (frame-long _ _ _ c.requires).2
 
 pub keep_state-requires : goal.keep_state-requires
 keep_state-requires c =
-    let long : (WORDS ≤ length c.args.words.now) × (HALVES ≤ length c.args.halves.now) × (FRAME ≤ length c.args.frame.now) = frame-long (length c.args.words.now) (length c.args.halves.now) (length c.args.frame.now) c.requires in
-    let l = long in (l.0, l.1)
+    let l = frame-long _ _ _ c.requires in (l.0, l.1)
 
 pub shape_of-words : goal.shape_of-words
 shape_of-words c = c.keep_state.auto.words

@@ -1,11 +1,9 @@
-use Prim.Native.Nat.{◌≤◌}
 use mathlib.Core.List.{[]}
 use mathlib.Core.Path.{◌∙◌}
-use lib.ListN.{length}
 use Rattle.refusal.specs.Refusals.{if_accepted}
 use Rattle.plc.specs.Answer.{plc_lost, plc_lost_output}
-use Rattle.layout.specs.Layout.{WORDS, HALVES, state_in, with_words, with_halves}
-use Rattle.layout.specs.Frame.{FRAME, tapless, with_lags}
+use Rattle.layout.specs.Layout.{state_in, with_words, with_halves}
+use Rattle.layout.specs.Frame.{tapless, with_lags}
 use Rattle.layout.proofs.Slices.{frame-long}
 use Rattle.slices.specs.Slices.{slices}
 use Rattle.slices.proofs.Ends.{same, again, ended}
@@ -14,23 +12,19 @@ use Rattle.stages.proofs.plc_lost.Goals as goal
 
 pub state_in-s-requires : goal.state_in-s-requires
 state_in-s-requires c =
-    let long : (WORDS ≤ length c.args.words.now) × (HALVES ≤ length c.args.halves.now) × (FRAME ≤ length c.args.frame.now) = frame-long (length c.args.words.now) (length c.args.halves.now) (length c.args.frame.now) c.requires in
-    let l = long in (l.0, l.1)
+    let l = frame-long _ _ _ c.requires in (l.0, l.1)
 
 pub tapless-c-requires : goal.tapless-c-requires
 tapless-c-requires c =
-    let long : (WORDS ≤ length c.args.words.now) × (HALVES ≤ length c.args.halves.now) × (FRAME ≤ length c.args.frame.now) = frame-long (length c.args.words.now) (length c.args.halves.now) (length c.args.frame.now) c.requires in
-    long.2
+    (frame-long _ _ _ c.requires).2
 
 pub keep_state-requires : goal.keep_state-requires
 keep_state-requires c =
-    let long : (WORDS ≤ length c.args.words.now) × (HALVES ≤ length c.args.halves.now) × (FRAME ≤ length c.args.frame.now) = frame-long (length c.args.words.now) (length c.args.halves.now) (length c.args.frame.now) c.requires in
-    let l = long in (l.0, l.1)
+    let l = frame-long _ _ _ c.requires in (l.0, l.1)
 
 pub keep_lags-requires : goal.keep_lags-requires
 keep_lags-requires c =
-    let long : (WORDS ≤ length c.args.words.now) × (HALVES ≤ length c.args.halves.now) × (FRAME ≤ length c.args.frame.now) = frame-long (length c.args.words.now) (length c.args.halves.now) (length c.args.frame.now) c.requires in
-    long.2
+    (frame-long _ _ _ c.requires).2
 
 pub shape_of-words : goal.shape_of-words
 shape_of-words c = c.keep_state.auto.words
