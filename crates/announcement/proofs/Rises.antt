@@ -15,7 +15,7 @@ use lib.ListN.{get_or, length}
 use lib.Signed.{le_z, ◌≤ℤ◌}
 use Rattle.word.proofs.Parts.{add_parts, le_parts, parts_le}
 use Rattle.word.proofs.Rows.{both}
-use Rattle.refusal.specs.declared.Refusal.TheVariants.{Nothing}
+use Rattle.std.specs.Prelude.{Ok}
 use Rattle.announcement.specs.Rising.{below, apart_to, rising, rising_refused, rising_of}
 use Rattle.announcement.specs.Claims.{Rises, RisingExactly}
 
@@ -75,7 +75,7 @@ pub taken : (n d : ℕ) → (d ≡ 10) ⊎ (d ≡ 16) → d ≤ n → rising_ref
 taken n d (inl p) h = rw (p, le-ltb n 10 (omega arith)) refl
 taken n d (inr p) h = rw (p, le-ltb n 16 (omega arith)) refl
 
-pub answered : (lines : List ℤ) (d : ℕ) → (d ≡ 10) ⊎ (d ≡ 16) → d ≤ length lines → rising_of lines d ≡ record { refusal = Nothing; rising = rising lines d }
+pub answered : (lines : List ℤ) (d : ℕ) → (d ≡ 10) ⊎ (d ≡ 16) → d ≤ length lines → rising_of lines d ≡ Ok (rising lines d)
 unfolding rising_of
 answered lines d o h = rw (taken (length lines) d o h) refl
 
@@ -84,4 +84,6 @@ exactly lines d (inl p) = rw p (rises lines 9, risen lines 9)
 exactly lines d (inr p) = rw p (rises lines 15, risen lines 15)
 
 pub rising-exactly : RisingExactly
-rising-exactly lines d o h = let x = exactly lines d o in rw (answered lines d o h) (refl, x.0, x.1)
+rising-exactly lines d o h =
+    let x = exactly lines d o in
+    rw (answered lines d o h) (λ r e. cc, λ e. x.0 cc, λ r. rw (x.1 r) refl)

@@ -1,7 +1,7 @@
 -- Which lines the filter from lines takes: those that rise, and all others that are not negative.
 use Prim.Native.Nat.{ℕ, zero, suc, ◌≤◌, ◌<◌}
 use mathlib.Core.Path.{◌≡◌, refl, ap}
-use mathlib.Core.Bool.{Bool, true, false, cond, not, false≢true}
+use mathlib.Core.Bool.{Bool, true, false, cond, not}
 use mathlib.Core.Logic.{◌⊎◌, inl, inr}
 use mathlib.Core.List.{List}
 use native.Mathlib.Omega.{arith}
@@ -12,15 +12,16 @@ use lib.Signed.{lt_z, ◌≤ℤ◌}
 use Rattle.word.proofs.Parts.{add_parts, le_parts, parts_le}
 use Rattle.word.proofs.Rows.{both}
 use Rattle.edition.specs.Edition.{older, newer, is_edition}
-use Rattle.refusal.specs.First.{first_or}
-use Rattle.refusal.specs.Refusals.{refusal_number}
-use Rattle.refusal.specs.declared.Refusal.TheVariants.{Nothing, Place, Order, Edition}
+use Rattle.std.specs.Prelude.{Result, Ok, Err}
+use Rattle.refusal.specs.First.{first_of}
+use Rattle.refusal.specs.Refusals.{Judged, code_of}
+use Rattle.refusal.specs.declared.Refusal.{Refusal}
+use Rattle.refusal.specs.declared.Refusal.TheVariants.{Place, Order, Edition}
 use Rattle.nlsf.specs.Lines.{negative_line}
 use Rattle.nlsf.specs.Filter.{order_refused, nlsf2a_refusal}
 use Rattle.nlsf.proofs.Lines.{nonneg_lines}
 use Rattle.announcement.specs.Rising.{below, apart_to, rising, rising_refused, rising_of}
 use Rattle.announcement.specs.Claims.{RisingAccepted, AnyOrder}
-use Rattle.announcement.specs.declared.Rising.{Rising}
 use Rattle.announcement.proofs.Rises.{apart-at}
 
 not_negative : (z : ℤ) → pos 0 ≤ℤ z → lt_z z (pos 0) ≡ false
@@ -40,27 +41,27 @@ rising-natural lines d e (suc k) h =
     (omega (arith, parts_le (apart-at lines d e (suc k) h), parts_le (rising-natural lines d e k (omega arith)), add_parts x (pos 3)))
 
 -- rows 13 and 22 have other numbers
-other : (a b : Bool) → refusal_number (cond a Order (cond b Edition Nothing)) ≡ 9 → ⊥
+other : (a b : Bool) → code_of (cond {A = Judged} a (Err Order) (cond b (Err Edition) (Ok tt))) ≡ 9 → ⊥
 other true b k = absurd (omega arith)
 other false true k = absurd (omega arith)
 other false false k = absurd (omega arith)
 
-pub never_nine : (n : ℕ) (lines : List ℤ) (d : ℕ) (e : ℤ) → rising lines d ≡ true → refusal_number (nlsf2a_refusal n lines d e) ≡ 9 → ⊥
-unfolding nlsf2a_refusal first_or rising
+pub never_nine : (n : ℕ) (lines : List ℤ) (d : ℕ) (e : ℤ) → rising lines d ≡ true → code_of (nlsf2a_refusal n lines d e) ≡ 9 → ⊥
+unfolding nlsf2a_refusal first_of rising
 never_nine n lines d e y =
     rw (none_negative lines d (rising-natural lines d (both (apart_to lines d) _ y).0)) (other (order_refused n (length lines) d) (not (is_edition e)))
 
 -- a refused check answers no
-yes_rises : (lines : List ℤ) (d : ℕ) → (rising_of lines d).rising ≡ true → rising lines d ≡ true
+yes_rises : (lines : List ℤ) (d : ℕ) → rising_of lines d ≡ Ok true → rising lines d ≡ true
 unfolding rising_of
 yes_rises lines d = go (rising_refused (length lines) d)
   where
-    go : (b : Bool) → (cond {A = Rising} b (record { refusal = Place; rising = false }) (record { refusal = Nothing; rising = rising lines d })).rising ≡ true → rising lines d ≡ true
-    go true e = absurd (false≢true e)
-    go false e = e
+    go : (b : Bool) → ◌≡◌ {A = Result Bool Refusal} (cond b (Err Place) (Ok (rising lines d))) (Ok true) → rising lines d ≡ true
+    go true e = cc
+    go false e = cc
 
 pub rising-accepted : RisingAccepted
-rising-accepted n lines d e y k = never_nine n lines d e (yes_rises lines d y) (ap refusal_number k)
+rising-accepted n lines d e y k = never_nine n lines d e (yes_rises lines d y) (ap code_of k)
 
 order_taken : (n m d : ℕ) → (d ≡ 10) ⊎ (d ≡ 16) → d ≤ n → d ≤ m → order_refused n m d ≡ false
 order_taken n m d (inl p) h k = rw (p, le-ltb n 10 (omega arith), le-ltb m 10 (omega arith)) refl
@@ -72,6 +73,6 @@ known e (inl p) = rw p refl
 known e (inr p) = rw p refl
 
 pub any_order : AnyOrder
-unfolding nlsf2a_refusal first_or
+unfolding nlsf2a_refusal first_of
 any_order n lines d e o h k l v =
     rw (order_taken n (length lines) d o h k, none_negative lines d l, known e v) refl

@@ -1,8 +1,8 @@
 -- Document 02, Note 6: "a check that its vector is rising".
-use Rattle.std.specs.Prelude.{ℕ, zero, suc, Bool, true, false, cond, not, ◌&&◌, ◌||◌, List, ltb, eqb, ℤ, pos, ◌+ℤ◌, get_or, length}
+use Rattle.std.specs.Prelude.{ℕ, zero, suc, Bool, true, cond, not, ◌&&◌, ◌||◌, List, ltb, eqb, ℤ, pos, ◌+ℤ◌, get_or, length, Result, Ok, Err}
 use Rattle.std.specs.Int.Signed.{le_z}
-use Rattle.refusal.specs.declared.Refusal.TheVariants.{Nothing, Place}
-use Rattle.announcement.specs.declared.Rising.{Rising}
+use Rattle.refusal.specs.declared.Refusal.{Refusal}
+use Rattle.refusal.specs.declared.Refusal.TheVariants.{Place}
 
 -- what lies below line k: the line before it, or 0
 unfoldable pub below : List ℤ → ℕ → ℤ
@@ -22,8 +22,6 @@ rising lines d = apart_to lines d && le_z (below lines d +ℤ pos 3) (pos 32768)
 abbrev pub rising_refused : ℕ → ℕ → Bool
 rising_refused n d = not (eqb d 10) && not (eqb d 16) || ltb n d
 
--- the check as a call; refused, it answers no
-unfoldable pub rising_of : List ℤ → ℕ → Rising
-rising_of lines d =
-    cond (rising_refused (length lines) d) (record { refusal = Place; rising = false })
-    (record { refusal = Nothing; rising = rising lines d })
+-- the check as a call
+unfoldable pub rising_of : List ℤ → ℕ → Result Bool Refusal
+rising_of lines d = cond (rising_refused (length lines) d) (Err Place) (Ok (rising lines d))

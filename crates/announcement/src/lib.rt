@@ -8,37 +8,19 @@ ghost use Rattle.announcement.specs.Cosine.{cosine_at};
 ghost use Rattle.announcement.specs.Rising.{rising, rising_of};
 ghost use Rattle.announcement.specs.Claims.{RisingExactly, RisingAccepted, AnyOrder};
 
-use nlsf::{lsf_cos, lsf_cos_half};
+use nlsf::lsf_cos;
 use refusal::Refusal;
-use word::{add32, wide16};
-
-#[derive(Clone, Copy)]
-pub struct Cosine {
-    pub refusal: Refusal,
-    pub value: i16,
-}
-
-#[derive(Clone, Copy)]
-pub struct Rising {
-    pub refusal: Refusal,
-    pub rising: bool,
-}
+use word::add32;
 
 // Entry `place` of the table: twice a cosine (Q12).
-pub fn lsf_cos_at(place: usize) -> Cosine
+#[tactic(auto, unfolding(crate::specs::Cosine::cosine_at))]
+pub fn lsf_cos_at(place: usize) -> Result<i16, Refusal>
     ensures { result ≡ cosine_at place }
 {
     if place > 128 {
-        return Cosine {
-            refusal: Refusal::Place,
-            value: 0,
-        };
+        return Err(Refusal::Place);
     }
-    let tab = lsf_cos_half();
-    Cosine {
-        refusal: Refusal::Nothing,
-        value: lsf_cos(&tab, place),
-    }
+    Ok(lsf_cos(place))
 }
 
 // A line lies at least 3 above what lies below it.
@@ -55,8 +37,8 @@ fn is_rising(nlsf: &[i16], d: usize) -> bool
 {
     let mut ok = true;
     let mut below = 0;
-    for k in 0..d {
-        let line = wide16(nlsf[k]);
+    for line in &nlsf[..d] {
+        let line = i32::from(*line);
         ok = ok & apart(below, line);
         below = line;
     }
@@ -64,19 +46,14 @@ fn is_rising(nlsf: &[i16], d: usize) -> bool
 }
 
 // Whether the first d lines rise.
-pub fn rising_check(nlsf: &[i16], d: usize) -> Rising
+#[tactic(auto, unfolding(crate::specs::Rising::rising_of))]
+pub fn rising_check(nlsf: &[i16], d: usize) -> Result<bool, Refusal>
     ensures { result ≡ rising_of nlsf.now d }
 {
     if (d != 10) & (d != 16) | (nlsf.len() < d) {
-        return Rising {
-            refusal: Refusal::Place,
-            rising: false,
-        };
+        return Err(Refusal::Place);
     }
-    Rising {
-        refusal: Refusal::Nothing,
-        rising: is_rising(nlsf, d),
-    }
+    Ok(is_rising(nlsf, d))
 }
 
 // The check answers yes exactly if the lines rise.

@@ -1,12 +1,13 @@
 -- Document 01, "The post's test bench": the P rows, in its order.
-use Rattle.std.specs.Prelude.{ℕ, ◌<◌, ◌≡◌, List, [], ◌∷◌, ◌++◌, ℤ, pos, negsuc, get_or, length, replicate}
+use Rattle.std.specs.Prelude.{ℕ, ◌<◌, ◌≡◌, List, [], ◌∷◌, ◌++◌, ℤ, pos, negsuc, get_or, length, replicate, Ok}
+use Rattle.std.specs.Result.{result_unwrap_or}
 use Rattle.word.specs.Row.{Row, row}
 use Rattle.macros.specs.Fixed.{rand, sqrt_approx}
 use Rattle.macros.specs.Quotient.{inverse32_varq}
-use Rattle.stability.specs.Stability.{answer_number, answer_value, tested}
+use Rattle.stability.specs.Stability.{Stability, answer_number, answer_value, tested}
 use Rattle.shape.specs.Shape.{frame_length}
 use Rattle.decoder.specs.State.{shape_of}
-use Rattle.decoder.specs.SetUp.{set_up}
+use Rattle.decoder.specs.SetUp.{silk_default, set_up}
 use Rattle.decoder.specs.With.{with_plc}
 use Rattle.decoder.specs.Outcome.{Outcome}
 use Rattle.decoder.specs.declared.SilkDecoderState.{SilkDecoderState}
@@ -19,9 +20,9 @@ use Rattle.plc.specs.Update.{middle, plc_update}
 use Rattle.plc.specs.Conceal.{plc_conceal}
 use Rattle.cng.specs.Noise.{exc_mask, comfort_noise}
 
--- the state after set-up
+-- the state after set-up, which takes every shape of the bench
 abbrev start : ℤ → ℤ → SilkDecoderState
-start khz nb = (set_up khz nb).state
+start khz nb = result_unwrap_or (set_up khz nb) silk_default
 
 -- a description with a sum of taps in each subframe
 abbrev description : ℤ → SilkDecoderControl
@@ -44,12 +45,15 @@ excitation_after seed pulse =
     let q : Params = record { signal = Voiced; quant_offset_type = pos 0; nlsf_interp_coef_q2 = pos 4; seed = seed } in
     get_or (decode_core (shape_of s) s q (description (pos 0)) rows (pulse ∷ replicate 319 (pos 0))).state.exc_q14 0 (pos 0)
 
--- the answer of the stability test to a filter of order 1: document 02's number, and the inverse gain or the step
+-- the stability test's answer to a filter of order 1: document 02's number, and the inverse gain or the step
+abbrev answer_of : ℤ → Stability
+answer_of a = result_unwrap_or (tested (a ∷ []) 1) (Ok (pos 0))
+
 abbrev reason_of : ℤ → ℤ
-reason_of a = pos (answer_number (tested (a ∷ []) 1).answer)
+reason_of a = pos (answer_number (answer_of a))
 
 abbrev value_of : ℤ → ℤ
-value_of a = answer_value (tested (a ∷ []) 1).answer
+value_of a = answer_value (answer_of a)
 
 -- the middle tap that concealment holds after a voiced frame, by its sum of taps
 abbrev tap_after : ℤ → ℤ

@@ -8,7 +8,10 @@ use native.Mathlib.Omega.{arith}
 use borrow.Author.Tests.{eqb-true, eqb-false, ne_eqb, leb-true, leb-false}
 use lib.Dec.{eqb, leb}
 use lib.ListN.{length, length-append}
-use Rattle.chain.specs.Chain.{next_of, records_in, is_among, through, broken, chain_from, chain_of}
+use Rattle.std.specs.Prelude.{Some, None}
+use Rattle.std.specs.List.{list_any}
+use Rattle.le.proofs.Places.{eqb_swap}
+use Rattle.chain.specs.Chain.{next_of, records_in, is_among, chain_from, chain_of}
 use Rattle.chain.specs.Claims.{Reaches, start, next, Means, ChainMeans, FewFrames}
 
 -- how many of the numbers below m are among xs
@@ -28,6 +31,12 @@ among_snoc j k (x ∷ xs) = ap (λ (t : Bool). eqb j x || t) (among_snoc j k xs)
     go : (s t u : Bool) → (s || (t || u)) ≡ ((s || t) || u)
     go true t u = refl
     go false t u = refl
+
+-- a number is found among others
+pub found : (k : ℕ) (xs : List ℕ) → list_any (λ y. eqb y k) xs ≡ is_among k xs
+unfolding is_among
+found k [] = refl
+found k (x ∷ xs) = λ i. eqb_swap x k i || found k xs i
 
 bit_other : (j k : ℕ) (xs : List ℕ) → (j ≡ k → ⊥) → is_among j (xs ++ k ∷ []) ≡ is_among j xs
 bit_other j k xs h = among_snoc j k xs ∙ ap (λ (t : Bool). is_among j xs || t) (ne_eqb j k h) ∙ go (is_among j xs)
@@ -113,7 +122,7 @@ means_from : (b : List ℕ) (left : ℕ) (met : List ℕ) (i : ℕ) → 0 < reco
 unfolding chain_from
 means_from b zero met i h r e = go (eqb (next_of b i) 0) refl
   where
-    go : (t : Bool) → eqb (next_of b i) 0 ≡ t → Means b (cond t (through met) broken)
+    go : (t : Bool) → eqb (next_of b i) 0 ≡ t → Means b (cond t (Some met) None)
     go true p = record { last = i; reached = r; done = eqb-true (next_of b i) 0 p }
     go false p =
         let z = eqb-false (next_of b i) 0 p in
@@ -122,7 +131,7 @@ means_from b (suc left) met i h r e = go (λ t. means_from b left (met ++ next_o
   where
     go : (Reaches b (met ++ next_of b i ∷ []) (next_of b i) → Means b (chain_from b left (met ++ next_of b i ∷ []) (next_of b i)))
         → (t : Bool) → eqb (next_of b i) 0 ≡ t → (s : Bool) → leb (records_in b) (next_of b i) ≡ s → (u : Bool) → is_among (next_of b i) met ≡ u
-        → Means b (cond t (through met) (cond (s || u) broken (chain_from b left (met ++ next_of b i ∷ []) (next_of b i))))
+        → Means b (cond t (Some met) (cond (s || u) None (chain_from b left (met ++ next_of b i ∷ []) (next_of b i))))
     go again true p s q u f = record { last = i; reached = r; done = eqb-true (next_of b i) 0 p }
     go again false p true q u f =
         record { met = met; at = i; reached = r; more = eqb-false (next_of b i) 0 p; bad = inl (leb-true (records_in b) (next_of b i) q) }

@@ -5,7 +5,8 @@ use mathlib.Core.List.{List, [], ◌∷◌, ◌++◌}
 use native.Mathlib.Omega.{arith}
 use lib.ListN.{length, get_or, take, replicate, length-append, length-replicate}
 use lib.Seq.{take-append_seam}
-use Rattle.chain.specs.Chain.{next_of, records_in, Chain, through, broken, chain_of, on_chain, padded}
+use Rattle.std.specs.Prelude.{Option, Some, None}
+use Rattle.chain.specs.Chain.{next_of, records_in, chain_of, on_chain, padded}
 use Rattle.chain.specs.Claims.{Reaches, start, next, Means}
 use Rattle.chain.proofs.Chains.{chain_means, few}
 
@@ -37,9 +38,9 @@ pub chained : (b : List ℕ) → 0 < records_in b → Chained b (on_chain (chain
 unfolding on_chain
 chained b h = go (chain_of b) (chain_means b h)
   where
-    go : (c : Chain) → Means b c → Chained b (on_chain c)
-    go (through ks) m = record { few = few b ks m.last h m.reached; below = reaches_below b ks m.last h m.reached }
-    go broken m = record { few = h; below = λ k. h }
+    go : (c : Option (List ℕ)) → Means b c → Chained b (on_chain c)
+    go (Some ks) m = record { few = few b ks m.last h m.reached; below = reaches_below b ks m.last h m.reached }
+    go None m = record { few = h; below = λ k. h }
 
 module _ (ks : List ℕ) where
   pub padded-front : take (length ks) (padded ks) ≡ ks

@@ -8,8 +8,9 @@ use native.Mathlib.Numerals.{add-one}
 use borrow.Author.Tests.{eqb-true, ltb-true, leb-true, eq-eqb, ne_eqb, le-leb, lt-leb}
 use lib.Dec.{eqb, ltb, leb}
 use lib.ListN.{length, take, set, replicate, length-append}
+use Rattle.std.specs.Prelude.{Some, None}
 use lib.Seq.{set_at, append_snoc, length-take-le, take-suc-set}
-use Rattle.chain.specs.Chain.{is_whole, records_in, next_of, is_among, through, broken, chain_from, chain_of, is_broken, on_chain, padded, order_of}
+use Rattle.chain.specs.Chain.{is_whole, records_in, next_of, is_among, chain_from, chain_of, padded, order, order_of}
 
 -- what a whole length has
 pub record Whole (n : ℕ) : Type 0 where
@@ -30,21 +31,21 @@ whole n e = go (eqb (n % 1024) 0) refl (ltb 0 (n / 1024)) refl (leb (n / 1024) 6
     go false p b q c r e = let z : ◌≡◌ {A = ℕ} 0 1 = cc in absurd (omega arith)
 
 module _ (b met : List ℕ) (i : ℕ) where
-  pub step_end : (left : ℕ) → next_of b i ≡ 0 → chain_from b left met i ≡ through met
+  pub step_end : (left : ℕ) → next_of b i ≡ 0 → chain_from b left met i ≡ Some met
   unfolding chain_from
   step_end zero e = rw (eq-eqb (next_of b i) 0 e)
   step_end (suc left) e = rw (eq-eqb (next_of b i) 0 e)
 
-  pub step-none : (next_of b i ≡ 0 → ⊥) → chain_from b 0 met i ≡ broken
+  pub step-none : (next_of b i ≡ 0 → ⊥) → chain_from b 0 met i ≡ None
   unfolding chain_from
   step-none e = rw (ne_eqb (next_of b i) 0 e)
 
-  pub step_past : (left : ℕ) → (next_of b i ≡ 0 → ⊥) → records_in b ≤ next_of b i → chain_from b left met i ≡ broken
+  pub step_past : (left : ℕ) → (next_of b i ≡ 0 → ⊥) → records_in b ≤ next_of b i → chain_from b left met i ≡ None
   unfolding chain_from
   step_past zero e h = step-none e
   step_past (suc left) e h = rw (ne_eqb (next_of b i) 0 e, le-leb (records_in b) (next_of b i) h)
 
-  pub step-met : (left : ℕ) → (next_of b i ≡ 0 → ⊥) → next_of b i < records_in b → is_among (next_of b i) met ≡ true → chain_from b left met i ≡ broken
+  pub step-met : (left : ℕ) → (next_of b i ≡ 0 → ⊥) → next_of b i < records_in b → is_among (next_of b i) met ≡ true → chain_from b left met i ≡ None
   unfolding chain_from
   step-met zero e h f = step-none e
   step-met (suc left) e h f = rw (ne_eqb (next_of b i) 0 e, lt-leb (records_in b) (next_of b i) h, f)
@@ -72,9 +73,8 @@ records_more r k v l h e =
     ∙ padded-more (take k r) v (omega arith)
     ∙ ap padded (sym (rw (add-one k) (take-suc-set r k v (omega arith))))
 
-pub order_through : (b r : List ℕ) (k : ℕ) → chain_of b ≡ through (take k r) → r ≡ padded (take k r) → length r ≡ 60 → k ≤ 60
-    → record { broken = false; frames = k; records = r } ≡ order_of (chain_of b)
-unfolding order_of is_broken on_chain
+pub order_through : (b r : List ℕ) (k : ℕ) → chain_of b ≡ Some (take k r) → r ≡ padded (take k r) → length r ≡ 60 → k ≤ 60
+    → Some (record { frames = k; records = r }) ≡ order_of (chain_of b)
 order_through b r k e p l h =
     let n : length (take k r) ≡ k = length-take-le k r (omega arith) in
-    rw e (λ i. record { broken = false; frames = sym n i; records = p i })
+    (λ i. Some (record { frames = sym n i; records = p i })) ∙ ap order_of (sym e)

@@ -1,5 +1,5 @@
 -- Document 02, Note 9: records of 1,024 bytes, numbered from 0, and the chain through them.
-use Rattle.std.specs.Prelude.{ℕ, zero, suc, ◌-◌, ◌*◌, ◌/◌, ◌%◌, Bool, true, false, cond, ◌&&◌, ◌||◌, List, [], ◌∷◌, ◌++◌, eqb, ltb, leb, length, replicate}
+use Rattle.std.specs.Prelude.{ℕ, zero, suc, ◌-◌, ◌*◌, ◌/◌, ◌%◌, Bool, true, false, cond, ◌&&◌, ◌||◌, List, [], ◌∷◌, ◌++◌, eqb, ltb, leb, length, replicate, Option, Some, None}
 use Rattle.le.specs.Bytes.{unsigned_at}
 use Rattle.chain.specs.declared.Order.{Order}
 
@@ -19,37 +19,37 @@ unfoldable pub is_among : ℕ → List ℕ → Bool
 is_among k [] = false
 is_among k (x ∷ xs) = eqb k x || is_among k xs
 
--- the records of a chain's frames, in order, or a chain that is broken
-pub data Chain : Type 0 where
-  through : List ℕ → Chain
-  broken : Chain
-
--- from record i on, where `met` are the frames' records before, and `left` records are neither record 0 nor among them:
+-- the records of a chain's frames, in order, or none for a chain that is broken: from record i on, where `met` are the frames' records before, and `left` records are neither record 0 nor among them:
 -- a next number of 0 ends the chain, and one past the end or met before breaks it (with none left it is one or the other)
-unfoldable pub chain_from : List ℕ → ℕ → List ℕ → ℕ → Chain
-chain_from b zero met i = cond (eqb (next_of b i) 0) (through met) broken
+unfoldable pub chain_from : List ℕ → ℕ → List ℕ → ℕ → Option (List ℕ)
+chain_from b zero met i = cond (eqb (next_of b i) 0) (Some met) None
 chain_from b (suc left) met i =
     let k = next_of b i in
-    cond (eqb k 0) (through met)
-    (cond (leb (records_in b) k || is_among k met) broken
+    cond (eqb k 0) (Some met)
+    (cond (leb (records_in b) k || is_among k met) None
     (chain_from b left (met ++ k ∷ []) k))
 
-unfoldable pub chain_of : List ℕ → Chain
+unfoldable pub chain_of : List ℕ → Option (List ℕ)
 chain_of b = chain_from b (records_in b - 1) [] 0
 
-unfoldable pub is_broken : Chain → Bool
-is_broken (through ks) = false
-is_broken broken = true
+unfoldable pub is_broken : Option (List ℕ) → Bool
+is_broken (Some ks) = false
+is_broken None = true
 
 -- the frames' records; none where the chain is broken
-unfoldable pub on_chain : Chain → List ℕ
-on_chain (through ks) = ks
-on_chain broken = []
+unfoldable pub on_chain : Option (List ℕ) → List ℕ
+on_chain (Some ks) = ks
+on_chain None = []
 
 -- 60 places: numbers, and zeros behind them
 unfoldable pub padded : List ℕ → List ℕ
 padded ks = ks ++ replicate (60 - length ks) 0
 
+-- the records on a chain, as the code has them
+abbrev pub order : List ℕ → Order
+order ks = record { frames = length ks; records = padded ks }
+
 -- a chain as the code has it
-unfoldable pub order_of : Chain → Order
-order_of c = record { broken = is_broken c; frames = length (on_chain c); records = padded (on_chain c) }
+abbrev pub order_of : Option (List ℕ) → Option Order
+order_of (Some ks) = Some (order ks)
+order_of None = None

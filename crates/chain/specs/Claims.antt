@@ -1,6 +1,6 @@
 -- What a chain's answer means: it is broken exactly by a number past the end or met before.
-use Rattle.std.specs.Prelude.{ℕ, suc, ◌≤◌, ◌<◌, ◌≡◌, true, false, ◌⊎◌, List, [], ◌∷◌, ◌++◌, length}
-use Rattle.chain.specs.Chain.{next_of, records_in, is_among, Chain, through, broken, chain_of}
+use Rattle.std.specs.Prelude.{ℕ, suc, ◌≤◌, ◌<◌, ◌≡◌, true, false, ◌⊎◌, List, [], ◌∷◌, ◌++◌, length, Option, Some, None}
+use Rattle.chain.specs.Chain.{next_of, records_in, is_among, chain_of}
 
 -- a chain reaches record i behind the frames' records `met`
 pub data Reaches (b : List ℕ) : List ℕ → ℕ → Type 0 where
@@ -22,9 +22,9 @@ pub record Ends (b : List ℕ) (ks : List ℕ) : Type 0 where
   pub reached : Reaches b ks last
   pub done : next_of b last ≡ 0
 
-abbrev pub Means : List ℕ → Chain → Type 0
-Means b (through ks) = Ends b ks
-Means b broken = Breaks b
+abbrev pub Means : List ℕ → Option (List ℕ) → Type 0
+Means b (Some ks) = Ends b ks
+Means b None = Breaks b
 
 -- row 20 is what it says
 abbrev pub ChainMeans : Type 0

@@ -2,16 +2,15 @@
 // Inner: every function.
 #![tactic(auto)]
 
-ghost use Rattle.std.specs.Prelude.{◌≡◌, true, ◌+◌, ◌*◌, ◌≤◌, ◌<◌, length, take, replicate};
-ghost use Rattle.chain.specs.Chain.{is_whole, next_of, is_among, Chain, chain_of, order_of};
+ghost use Rattle.std.specs.Prelude.{◌≡◌, true, ◌+◌, ◌*◌, ◌≤◌, ◌<◌, length};
+ghost use Rattle.chain.specs.Chain.{is_whole, next_of, chain_of, order_of};
 ghost use Rattle.chain.specs.Claims.{ChainMeans, FewFrames};
 
-use le::u16_at;
+use le::Word;
 
 // The records of a chain's frames, in order.
 #[derive(Clone, Copy)]
 pub struct Order {
-    pub broken: bool,
     pub frames: usize,
     pub records: [u8; 60],
 }
@@ -32,67 +31,35 @@ fn next_of(bytes: &[u8], i: usize) -> usize
     requires { (i < 60) × (1024 * i + 1024 ≤ length bytes.now) }
     ensures { result ≡ next_of bytes.now i }
 {
-    u16_at(bytes, 1024 * i) as usize
+    u16::at(bytes, 1024 * i) as usize
 }
 
-// A number is one of the first n records.
-fn is_among(k: usize, records: &[u8], n: usize) -> bool
-    requires { n ≤ length records.now }
-    ensures { result ≡ is_among k (take n records.now) }
-{
-    let mut met = false;
-    for j in 0..n {
-        met = met | (k == wide8(records[j]));
-    }
-    met
-}
-
-pub fn no_records() -> [u8; 60]
-    ensures { result ≡ replicate 60 0 }
-{
-    [0; 60]
-}
-
-fn broken() -> Order
-    ensures { result ≡ order_of Chain.broken }
-{
-    let records = no_records();
-    Order {
-        broken: true,
-        frames: 0,
-        records,
-    }
-}
-
-pub fn chain(bytes: &[u8]) -> Order
+// None where the chain is broken.
+pub fn chain(bytes: &[u8]) -> Option<Order>
     requires { is_whole (length bytes.now) ≡ true }
     ensures { result ≡ order_of (chain_of bytes.now) }
 {
     let n = bytes.len() / 1024;
-    let mut records = no_records();
+    let mut records = [0; 60];
     let mut at = 0;
     for k in 0..n {
         let next = next_of(bytes, at);
         if next == 0 {
-            return Order {
-                broken: false,
-                frames: k,
-                records,
-            };
+            return Some(Order { frames: k, records });
         }
         if k + 1 == n {
-            return broken();
+            return None;
         }
         if next >= n {
-            return broken();
+            return None;
         }
-        if is_among(next, &records, k) {
-            return broken();
+        if records[..k].contains(&(next as u8)) {
+            return None;
         }
         records[k] = next as u8;
         at = next;
     }
-    broken()
+    None
 }
 
 // The chain is broken exactly by a number past the end or met before, and reaches at most every record once. The claims have no code: each is a

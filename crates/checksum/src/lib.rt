@@ -2,10 +2,34 @@
 // Inner: every function.
 #![tactic(auto)]
 
-ghost use Rattle.std.specs.Prelude.{◌≡◌};
+ghost use Rattle.std.specs.Prelude.{◌≡◌, ℤ};
 ghost use Rattle.checksum.specs.Sum.{mixed, sum_of};
 
-use word::{add32, mul32, wide16};
+use word::{add32, mul32};
+
+// A number of up to 32 bits.
+pub trait Number: Copy {
+    ghost number: { Self → ℤ };
+
+    fn number(self) -> i32
+        ensures { result ≡ number self };
+}
+
+impl Number for i16 {
+    ghost number = { λ x. x };
+
+    fn number(self) -> i32 {
+        i32::from(self)
+    }
+}
+
+impl Number for i32 {
+    ghost number = { λ x. x };
+
+    fn number(self) -> i32 {
+        self
+    }
+}
 
 fn mixed(h: i32, x: i32) -> i32
     ensures { result ≡ mixed h x }
@@ -14,22 +38,12 @@ fn mixed(h: i32, x: i32) -> i32
 }
 
 // The sum h, with all of a slice added.
-pub fn sum32(h: i32, numbers: &[i32]) -> i32
-    ensures { result ≡ sum_of h numbers.now }
+pub fn sum<T: Number>(h: i32, numbers: &[T]) -> i32
+    ensures { result ≡ sum_of T.number h numbers.now }
 {
     let mut s = h;
-    for i in 0..numbers.len() {
-        s = mixed(s, numbers[i]);
-    }
-    s
-}
-
-pub fn sum16(h: i32, numbers: &[i16]) -> i32
-    ensures { result ≡ sum_of h numbers.now }
-{
-    let mut s = h;
-    for i in 0..numbers.len() {
-        s = mixed(s, wide16(numbers[i]));
+    for x in numbers {
+        s = mixed(s, x.number());
     }
     s
 }

@@ -15,11 +15,12 @@ ghost use Rattle.cng.specs.Noise.{flat_line, cng_reset, cng_ready, smoothed_line
 ghost use Rattle.cng.specs.Answer.{cng_answer, cng_output};
 ghost use Rattle.cng.specs.Announced.{Announced};
 
-use decoder::{SilkCNGState, SilkDecoderControl, SilkDecoderState, StateAnswer};
+use decoder::{SilkCNGState, SilkDecoderControl, SilkDecoderState};
 use macros::{silk_add_sat16, silk_rand, silk_smultt, silk_smulwb, silk_smulww, silk_sqrt_approx};
 use nlsf::nlsf2a;
+use refusal::Refusal;
 use shape::{Rate, count_of};
-use sigproc::{copy32_at, played_sample, synthesis};
+use sigproc::{copy_at, played_sample, synthesis};
 use word::{add32, bits32, low16, shl32, shr32, sub32, wide16};
 
 // The largest gain and its place.
@@ -42,8 +43,8 @@ fn flat_lines(held: [i16; 16], d: usize) -> [i16; 16]
     ensures { result ≡ tabulate d (flat_line d) ++ drop d held }
 {
     let mut lines = held;
-    for i in 0..d {
-        lines[i] = flat_line(d, i);
+    for (i, line) in lines[..d].iter_mut().enumerate() {
+        *line = flat_line(d, i);
     }
     lines
 }
@@ -52,14 +53,13 @@ fn silk_cng_reset(h: SilkCNGState, khz: i32) -> SilkCNGState
     requires { is_rate khz ≡ true }
     ensures { result ≡ cng_reset (rate_of khz) h }
 {
-    let mut t = h;
-    let held = h.cng_smth_nlsf_q15;
-    let lines = flat_lines(held, Rate::lpc_order(khz));
-    t.cng_smth_nlsf_q15 = lines;
-    t.cng_smth_gain_q16 = 0;
-    t.rand_seed = 3176576;
-    t.fs_khz = khz;
-    t
+    SilkCNGState {
+        cng_smth_nlsf_q15: flat_lines(h.cng_smth_nlsf_q15, Rate::lpc_order(khz)),
+        cng_smth_gain_q16: 0,
+        rand_seed: 3176576,
+        fs_khz: khz,
+        ..h
+    }
 }
 
 // Noise at its rate: reset if it held another.
@@ -68,9 +68,10 @@ fn ready(h: SilkCNGState, khz: i32) -> SilkCNGState
     ensures { result ≡ cng_ready (rate_of khz) h }
 {
     if khz == h.fs_khz {
-        return h;
+        h
+    } else {
+        silk_cng_reset(h, khz)
     }
-    silk_cng_reset(h, khz)
 }
 
 fn smoothed_line(held: i16, line: i16) -> i16
@@ -87,8 +88,8 @@ fn smoothed_lines(held: [i16; 16], lines: [i16; 16], d: usize) -> [i16; 16]
     ensures { result ≡ smoothed_lines held lines d }
 {
     let mut new = held;
-    for i in 0..d {
-        new[i] = smoothed_line(held[i], lines[i]);
+    for (i, line) in new[..d].iter_mut().enumerate() {
+        *line = smoothed_line(held[i], lines[i]);
     }
     new
 }
@@ -97,9 +98,10 @@ fn louder(b: Peak, g: i32, k: usize) -> Peak
     ensures { result ≡ louder b g k }
 {
     if g > b.gain {
-        return Peak { gain: g, place: k };
+        Peak { gain: g, place: k }
+    } else {
+        b
     }
-    b
 }
 
 // The place of the largest of the first n gains.
@@ -108,8 +110,8 @@ fn loudest(gains: &[i32; 4], n: usize) -> usize
     ensures { result ≡ (loudest gains.now n).place }
 {
     let mut b = Peak { gain: 0, place: 0 };
-    for k in 0..n {
-        b = louder(b, gains[k], k);
+    for (k, g) in gains[..n].iter().enumerate() {
+        b = louder(b, *g, k);
     }
     b.place
 }
@@ -119,9 +121,10 @@ fn next_gain(held: i32, g: i32) -> i32
 {
     let next = add32(held, silk_smulwb(sub32(g, held), 4634));
     if silk_smulww(next, 46396) > g {
-        return g;
+        g
+    } else {
+        next
     }
-    next
 }
 
 fn smoothed_gain(held: i32, gains: &[i32; 4], n: usize) -> i32
@@ -129,8 +132,8 @@ fn smoothed_gain(held: i32, gains: &[i32; 4], n: usize) -> i32
     ensures { result ≡ smoothed_gain held gains.now n }
 {
     let mut gain = held;
-    for k in 0..n {
-        gain = next_gain(gain, gains[k]);
+    for g in &gains[..n] {
+        gain = next_gain(gain, *g);
     }
     gain
 }
@@ -144,9 +147,8 @@ fn moved_in(held: [i32; 320], exc: &[i32; 320], l: usize, n: usize, k: usize) ->
     let b = a + l;
     let m = (n - 1) * l;
     let mut new = held;
-    let whole = &exc[..];
-    copy32_at(&mut new, 0, &whole[a..b]);
-    copy32_at(&mut new, l, &held[..m]);
+    copy_at(&mut new, 0, &exc[a..b]);
+    copy_at(&mut new, l, &held[..m]);
     new
 }
 
@@ -162,15 +164,18 @@ fn tracked(
     ensures { result ≡ tracked (shape khz nb_subfr) exc.now lines gains.now h }
 {
     let n = count_of(nb_subfr);
-    let held = h.cng_exc_buf_q14;
-    let old = h.cng_smth_nlsf_q15;
-    let moved = moved_in(held, exc, Rate::subfr_length(khz), n, loudest(gains, n));
-    let smoothed = smoothed_lines(old, lines, Rate::lpc_order(khz));
-    let mut t = h;
-    t.cng_exc_buf_q14 = moved;
-    t.cng_smth_nlsf_q15 = smoothed;
-    t.cng_smth_gain_q16 = smoothed_gain(h.cng_smth_gain_q16, gains, n);
-    t
+    SilkCNGState {
+        cng_exc_buf_q14: moved_in(
+            h.cng_exc_buf_q14,
+            exc,
+            Rate::subfr_length(khz),
+            n,
+            loudest(gains, n),
+        ),
+        cng_smth_nlsf_q15: smoothed_lines(h.cng_smth_nlsf_q15, lines, Rate::lpc_order(khz)),
+        cng_smth_gain_q16: smoothed_gain(h.cng_smth_gain_q16, gains, n),
+        ..h
+    }
 }
 
 fn noise_gain(scale: i16, last: i32, smoothed: i32) -> i32
@@ -214,18 +219,11 @@ fn drawn(out: &mut [i32], exc: &[i32; 320], mask: usize, seed: i32) -> i32
     ensures { (result ≡ seed_at seed (length out.old)) × (out.new ≡ drawn exc.now mask seed (length out.old)) }
 {
     let mut s = seed;
-    for i in 0..out.len() {
+    for x in out.iter_mut() {
         s = silk_rand(s);
-        let place = draw(s, mask);
-        out[i] = exc[place];
+        *x = exc[draw(s, mask)];
     }
     s
-}
-
-fn zeros16() -> [i16; 16]
-    ensures { result ≡ replicate 16 (pos 0) }
-{
-    [0; 16]
 }
 
 // The filter of the first d lines, with zeros after it.
@@ -233,7 +231,7 @@ fn noise_filter(lines: [i16; 16], d: usize, edition: i32) -> [i16; 16]
     requires { ((d ≡ 10) ⊎ (d ≡ 16)) × (negative_line lines d ≡ false) }
     ensures { result ≡ nlsf2a edition lines d ++ drop d (replicate 16 (pos 0)) }
 {
-    let mut a = zeros16();
+    let mut a = [0; 16];
     nlsf2a(&mut a[..d], &lines, d, edition);
     a
 }
@@ -245,12 +243,14 @@ fn noise_signal(buf: &mut [i32], h: SilkCNGState, d: usize, edition: i32) -> i32
 {
     let m = buf.len();
     let n = m - 16;
-    let lines = h.cng_smth_nlsf_q15;
-    let memory = h.cng_synth_state;
-    let held = h.rand_seed;
-    copy32_at(buf, 0, &memory);
-    let seed = drawn(&mut buf[16..m], &h.cng_exc_buf_q14, exc_mask(n), held);
-    let a = noise_filter(lines, d, edition);
+    copy_at(buf, 0, &h.cng_synth_state);
+    let seed = drawn(
+        &mut buf[16..m],
+        &h.cng_exc_buf_q14,
+        exc_mask(n),
+        h.rand_seed,
+    );
+    let a = noise_filter(h.cng_smth_nlsf_q15, d, edition);
     synthesis(buf, &a, d);
     seed
 }
@@ -261,14 +261,9 @@ fn added(frame: &mut [i16], signal: &[i32], gain: i32)
     ensures { frame.new ≡ tabulate (length frame.old) (λ i. sat16 (get_or frame.old i (pos 0) +ℤ played gain (get_or signal.now i (pos 0)))) }
 {
     let gain_q10 = shr32(gain, 6);
-    for i in 0..frame.len() {
-        frame[i] = silk_add_sat16(frame[i], played_sample(signal[i], gain_q10));
+    for (i, x) in frame.iter_mut().enumerate() {
+        *x = silk_add_sat16(*x, played_sample(signal[i], gain_q10));
     }
-}
-
-// Room for the memory and a frame.
-fn zeros336() -> [i32; 336] {
-    [0; 336]
 }
 
 // Noise of order d added to the frame.
@@ -286,7 +281,7 @@ fn noise(
 {
     let n = frame.len();
     let m = 16 + n;
-    let mut buf = zeros336();
+    let mut buf = [0; 336];
     let seed = noise_signal(&mut buf[..m], h, d, edition);
     added(
         frame,
@@ -294,11 +289,12 @@ fn noise(
         noise_gain(scale, last, h.cng_smth_gain_q16),
     );
     let mut memory = h.cng_synth_state;
-    copy32_at(&mut memory, 0, &buf[n..m]);
-    let mut t = h;
-    t.cng_synth_state = memory;
-    t.rand_seed = seed;
-    t
+    copy_at(&mut memory, 0, &buf[n..m]);
+    SilkCNGState {
+        cng_synth_state: memory,
+        rand_seed: seed,
+        ..h
+    }
 }
 
 // The first d places zeroed.
@@ -307,9 +303,7 @@ fn silenced_memory(memory: [i32; 16], d: usize) -> [i32; 16]
     ensures { result ≡ replicate d (pos 0) ++ drop d memory }
 {
     let mut new = memory;
-    for i in 0..d {
-        new[i] = 0;
-    }
+    new[..d].fill(0);
     new
 }
 
@@ -317,11 +311,10 @@ fn silenced(h: SilkCNGState, d: usize) -> SilkCNGState
     requires { d ≤ 16 }
     ensures { result ≡ silenced d h }
 {
-    let memory = h.cng_synth_state;
-    let new = silenced_memory(memory, d);
-    let mut t = h;
-    t.cng_synth_state = new;
-    t
+    SilkCNGState {
+        cng_synth_state: silenced_memory(h.cng_synth_state, d),
+        ..h
+    }
 }
 
 // The background followed in a frame without voice activity.
@@ -387,35 +380,30 @@ fn comfort_noise(s: SilkDecoderState, gains: &[i32; 4], frame: &mut [i16]) -> Si
     requires { (is_rate s.fs_khz ≡ true) × (is_count s.nb_subfr ≡ true) × (cng_fits (rate_of s.fs_khz) s.s_cng ≡ true) × (length frame.old ≤ 320) }
     ensures { record { state = result; frame = frame.new } ≡ comfort_noise (shape_of s) s gains.now (length frame.old) frame.old }
 {
-    let khz = s.fs_khz;
-    let held = s.s_cng;
+    // With `..s` the proof would have to read back each number that is kept.
     let mut t = s;
     if s.loss_cnt == 0 {
-        let exc = s.exc_q14;
-        let lines = s.prev_nlsf_q15;
-        let new = received(
-            held,
-            &exc,
-            lines,
+        t.s_cng = received(
+            s.s_cng,
+            &s.exc_q14,
+            s.prev_nlsf_q15,
             gains,
-            khz,
+            s.fs_khz,
             s.nb_subfr,
             s.prev_signal_type,
         );
-        t.s_cng = new;
         return t;
     }
     let plc = s.s_plc;
     let settings = s.settings;
-    let new = lost(
-        held,
-        khz,
+    t.s_cng = lost(
+        s.s_cng,
+        s.fs_khz,
         settings.edition,
         plc.rand_scale_q14,
         plc.prev_gain_q16[1],
         frame,
     );
-    t.s_cng = new;
     t
 }
 
@@ -425,16 +413,12 @@ pub fn silk_cng(
     c: SilkDecoderControl,
     frame: &mut [i16],
     n: usize,
-) -> StateAnswer
+) -> Result<SilkDecoderState, Refusal>
     ensures { (result ≡ cng_answer s c frame.old n) × (frame.new ≡ cng_output s c frame.old n) }
 {
-    let refusal = judge::cng(s, c, frame.len(), n);
-    if refusal::number(refusal) != 0 {
-        return StateAnswer { refusal, state: s };
-    }
+    judge::cng(s, c, frame.len(), n)?;
     let gains = c.gains_q16;
-    let state = comfort_noise(s, &gains, &mut frame[..n]);
-    StateAnswer { refusal, state }
+    Ok(comfort_noise(s, &gains, &mut frame[..n]))
 }
 
 // The filter from lines is the one that noise has from the same lines, under the same edition.

@@ -1,10 +1,10 @@
 -- A line of an edition and coefficients: whole numbers of 16 bits, each with a minus sign or none, with blanks or commas between them.
-use Rattle.std.specs.Prelude.{ℕ, min, ◌+◌, ◌-◌, ◌*◌, Bool, true, false, cond, ◌&&◌, ◌||◌, List, eqb, ltb, ℤ, pos, neg_ℤ, set, replicate}
+use Rattle.std.specs.Prelude.{ℕ, min, ◌+◌, ◌-◌, ◌*◌, Bool, true, false, cond, ◌&&◌, ◌||◌, List, eqb, ltb, ℤ, pos, neg_ℤ, set, replicate, Option, Some, None, is_some, unwrap_or}
 use Rattle.coefficients.specs.declared.Entry.{Entry}
 
 -- `count` numbers are read, and none is begun
 unfoldable pub between : List ℤ → ℕ → Bool → Entry
-between a count bad = record { a = a; count = count; bad = bad; size = 0; negative = false; inside = false }
+between a count bad = record { a = a; count = count; bad = bad; negative = false; size = None }
 
 unfoldable pub blank : Entry
 blank = between (replicate 17 (pos 0)) 0 false
@@ -16,31 +16,36 @@ is_blank b = eqb b 32 || eqb b 9 || eqb b 13 || eqb b 44
 unfoldable pub number : ℕ → Bool → ℤ
 number size negative = cond negative (neg_ℤ (pos size)) (pos size)
 
--- the number that is being read is one of the first 17, and of 16 bits
-unfoldable pub fits : Entry → Bool
-fits e = ltb e.count 17 && ltb e.size (cond e.negative 32769 32768)
+-- the number that is being read, of this size, is one of the first 17, and of 16 bits
+unfoldable pub fits : Entry → ℕ → Bool
+fits e size = ltb e.count 17 && ltb size (cond e.negative 32769 32768)
 
-unfoldable pub stored : Entry → Entry
-stored e = between (set e.a e.count (number e.size e.negative)) (e.count + 1) e.bad
+unfoldable pub stored : Entry → ℕ → Entry
+stored e size = between (set e.a e.count (number size e.negative)) (e.count + 1) e.bad
 
 -- the line is bad
 unfoldable pub worse : Entry → Entry
 worse e = between e.a e.count true
 
+-- what the end of a number leaves, of its size
+unfoldable pub left_by : Entry → Option ℕ → Entry
+left_by e (Some size) = cond (fits e size) (stored e size) (worse e)
+left_by e None = cond e.negative (worse e) e
+
 -- a number ends; a minus sign with no digit behind it is bad
 unfoldable pub ended : Entry → Entry
-ended e = cond e.inside (cond (fits e) (stored e) (worse e)) (cond e.negative (worse e) e)
+ended e = left_by e e.size
 
 -- a minus sign begins a number
 unfoldable pub minus : Entry → Entry
 minus e =
-    cond (e.inside || e.negative) (worse e)
-    (record { a = e.a; count = e.count; bad = e.bad; size = e.size; negative = true; inside = e.inside })
+    cond (is_some e.size || e.negative) (worse e)
+    (record { a = e.a; count = e.count; bad = e.bad; negative = true; size = e.size })
 
 -- a digit d goes on with a number; a size above 40,000 fits no more, whatever follows
 unfoldable pub digit : Entry → ℕ → Entry
 digit e d =
-    record { a = e.a; count = e.count; bad = e.bad; size = min e.size 40000 * 10 + d; negative = e.negative; inside = true }
+    record { a = e.a; count = e.count; bad = e.bad; negative = e.negative; size = Some (min (unwrap_or e.size 0) 40000 * 10 + d) }
 
 -- a byte more: a blank, a minus sign, 45, a digit, 48 to 57, or any other, which is bad
 unfoldable pub fed : Entry → ℕ → Entry

@@ -2,28 +2,21 @@
 // Inner: every function.
 #![tactic(auto)]
 
-ghost use Rattle.std.specs.Prelude.{◌≡◌, true, cond, min, ◌<◌, ◌≤◌, pos, replicate};
-ghost use Rattle.coefficients.specs.Line.{between, blank, is_blank, number, fits, stored, worse, ended, minus, digit, fed};
+ghost use Rattle.std.specs.Prelude.{◌≡◌, ◌<◌, true, cond};
+ghost use Rattle.coefficients.specs.Line.{between, blank, number, fits, stored, worse, ended, minus, digit, fed};
 
-use word::{low16, neg32};
-
-// The numbers so far, and the one that is being read.
+// The numbers so far, and the one that is being read: its minus sign, and its size from the first digit on.
+// The count stays beside the numbers: there is no heap, and the filter's test takes all 16 coefficients, with zeros behind.
 #[derive(Clone, Copy)]
 pub struct Entry {
     pub a: [i16; 17],
     pub count: usize,
     pub bad: bool,
-    size: usize,
     negative: bool,
-    inside: bool,
+    size: Option<usize>,
 }
 
-fn zeros() -> [i16; 17]
-    ensures { result ≡ replicate 17 (pos 0) }
-{
-    [0; 17]
-}
-
+#[tactic(auto, unfolding(crate::specs::Line::between))]
 fn between(a: [i16; 17], count: usize, bad: bool) -> Entry
     ensures { result ≡ between a count bad }
 {
@@ -31,117 +24,99 @@ fn between(a: [i16; 17], count: usize, bad: bool) -> Entry
         a,
         count,
         bad,
-        size: 0,
         negative: false,
-        inside: false,
+        size: None,
     }
 }
 
 // The start of a line.
+#[tactic(auto, unfolding(crate::specs::Line::blank))]
 pub fn blank() -> Entry
     ensures { result ≡ blank }
 {
-    between(zeros(), 0, false)
+    between([0; 17], 0, false)
 }
 
-fn is_blank(b: u8) -> bool
-    ensures { result ≡ is_blank b }
-{
-    (b == b' ') | (b == b'\t') | (b == b'\r') | (b == b',')
-}
-
+#[tactic(auto, unfolding(crate::specs::Line::number))]
 fn number(size: usize, negative: bool) -> i16
     requires { size < cond negative 32769 32768 }
     ensures { result ≡ number size negative }
 {
     let v = size as i32;
-    if negative { low16(neg32(v)) } else { low16(v) }
+    if negative { -v as i16 } else { v as i16 }
 }
 
-// The number that is being read has 16 bits, and a place.
-fn fits(e: Entry) -> bool
-    ensures { result ≡ fits e }
+// A number of this size has 16 bits, and a place.
+#[tactic(auto, unfolding(crate::specs::Line::fits))]
+fn fits(e: Entry, size: usize) -> bool
+    ensures { result ≡ fits e size }
 {
-    if e.negative {
-        return (e.count < 17) & (e.size < 32769);
-    }
-    (e.count < 17) & (e.size < 32768)
+    let sizes = if e.negative { 32769 } else { 32768 };
+    e.count < 17 && size < sizes
 }
 
+#[tactic(auto, unfolding(crate::specs::Line::worse))]
 fn worse(e: Entry) -> Entry
     ensures { result ≡ worse e }
 {
-    let a = e.a;
-    between(a, e.count, true)
+    between(e.a, e.count, true)
 }
 
-fn stored(e: Entry) -> Entry
-    requires { fits e ≡ true }
-    ensures { result ≡ stored e }
+#[tactic(auto, unfolding(crate::specs::Line::stored, crate::specs::Line::fits))]
+fn stored(e: Entry, size: usize) -> Entry
+    requires { fits e size ≡ true }
+    ensures { result ≡ stored e size }
 {
     let mut a = e.a;
-    let at = e.count;
-    a[at] = number(e.size, e.negative);
-    between(a, at + 1, e.bad)
+    a[e.count] = number(size, e.negative);
+    between(a, e.count + 1, e.bad)
 }
 
 // A number's end, or that of the line: a minus sign alone is bad.
+#[tactic(auto, unfolding(crate::specs::Line::ended, crate::specs::Line::left_by))]
 pub fn ended(e: Entry) -> Entry
     ensures { result ≡ ended e }
 {
-    if e.inside {
-        if fits(e) {
-            return stored(e);
-        }
-        return worse(e);
+    match e.size {
+        Some(size) if fits(e, size) => stored(e, size),
+        None if !e.negative => e,
+        _ => worse(e),
     }
-    if e.negative {
-        return worse(e);
-    }
-    e
 }
 
+#[tactic(auto, unfolding(crate::specs::Line::minus))]
 fn minus(e: Entry) -> Entry
     ensures { result ≡ minus e }
 {
-    if e.inside | e.negative {
+    if e.size.is_some() || e.negative {
         return worse(e);
     }
-    let mut new = e;
-    new.negative = true;
-    new
+    Entry {
+        negative: true,
+        ..e
+    }
 }
 
-fn capped(size: usize) -> usize
-    ensures { (result ≡ min size 40000) × (result ≤ 40000) }
-{
-    if size < 40000 { size } else { 40000 }
-}
-
+#[tactic(auto, unfolding(crate::specs::Line::digit))]
 fn digit(e: Entry, d: u8) -> Entry
     ensures { result ≡ digit e d }
 {
-    let mut new = e;
-    new.size = capped(e.size) * 10 + d as usize;
-    new.inside = true;
-    new
+    let size = e.size.unwrap_or(0).min(40000) * 10 + usize::from(d);
+    Entry {
+        size: Some(size),
+        ..e
+    }
 }
 
 // The line with one more byte.
+#[tactic(auto, unfolding(crate::specs::Line::fed, crate::specs::Line::is_blank))]
 pub fn fed(e: Entry, b: u8) -> Entry
     ensures { result ≡ fed e b }
 {
-    if is_blank(b) {
-        return ended(e);
+    match b {
+        b' ' | b'\t' | b'\r' | b',' => ended(e),
+        b'-' => minus(e),
+        b'0'..=b'9' => digit(e, b - b'0'),
+        _ => worse(e),
     }
-    if b == b'-' {
-        return minus(e);
-    }
-    if b < b'0' {
-        return worse(e);
-    }
-    if b > b'9' {
-        return worse(e);
-    }
-    digit(e, b - b'0')
 }

@@ -1,25 +1,25 @@
 -- Frames played from a state on, one at a time; a prefix that passes nothing need not be played again.
-use Prim.Native.Nat.{ℕ, zero, suc, ◌+◌, ◌-◌, ◌*◌, ◌≤◌, ◌<◌}
+use Prim.Native.Nat.{ℕ, zero, suc, ◌+◌, ◌-◌, ◌*◌, ◌<◌}
 use mathlib.Core.Path.{◌≡◌, refl, sym, ap, ◌∙◌}
 use mathlib.Core.Bool.{Bool, true, false, cond, ◌&&◌, ◌||◌, false≢true}
 use mathlib.Core.List.{List, [], ◌∷◌, map}
 use native.Mathlib.Omega.{arith}
+use Rattle.std.specs.Prelude.{Some, None}
 use lib.Dec.{eqb}
 use lib.IntN.{ℤ}
 use lib.ListN.{length, length-map, get_or, take, drop, drop_of_length-le}
-use lib.Seq.{drop-cons, get_or-take, get_or-drop, length-take-le}
+use lib.Seq.{drop-cons, get_or-drop}
 use Rattle.shape.specs.Shape.{frame_length}
 use Rattle.decoder.specs.declared.SilkDecoderState.{SilkDecoderState}
 use Rattle.decode_frame.specs.Call.{shape_at}
 use Rattle.record.specs.Record.{params_in, control_in, rows_in, lines_in, pulses_in}
 use Rattle.record.specs.Recorded.{Recorded, lost, received, recorded_in}
 use Rattle.playback.specs.Playback.{call_of, sound_of, samples_from}
-use Rattle.recording.specs.Frames.{recorded_at}
+use Rattle.recording.specs.Frames.{recorded_at, Inside}
 use Rattle.heard.specs.Loud.{any_beyond, heard_of}
 use Rattle.heard.specs.declared.Heard.{Heard}
 use Rattle.heard.proofs.Laws.{beyond-append}
 use Rattle.culprit.specs.Search.{losing, was_received, passes, is_culprit, first_from}
-use Rattle.culprit.specs.declared.Culprit.TheVariants.{Frame, None}
 
 split : (a b : Bool) → (a || b) ≡ false → (a ≡ false) × (b ≡ false)
 split true b e = absurd (false≢true (sym e))
@@ -92,19 +92,19 @@ module _ (l khz nb : ℤ) where
 pub first-start : (f : ℕ → Bool) (n : ℕ) → first_from f 0 n ≡ first_from f 0 (n - 0)
 first-start f n = let z : n ≡ n - 0 = omega arith in ap (first_from f 0) z
 
-pub first_here : (f : ℕ → Bool) (k n : ℕ) → k < n → f k ≡ true → first_from f k (n - k) ≡ Frame (k + 1)
+pub first_here : (f : ℕ → Bool) (k n : ℕ) → k < n → f k ≡ true → first_from f k (n - k) ≡ Some (k + 1)
 unfolding first_from
 first_here f k n h e =
     let m : n - k ≡ suc (n - suc k) = omega arith in
     let q : suc k ≡ k + 1 = omega arith in
-    ap (first_from f k) m ∙ ap (λ (t : Bool). cond t (Frame (suc k)) (first_from f (suc k) (n - suc k))) e ∙ ap Frame q
+    ap (first_from f k) m ∙ ap (λ (t : Bool). cond t (Some (suc k)) (first_from f (suc k) (n - suc k))) e ∙ ap Some q
 
 pub first_later : (f : ℕ → Bool) (k n : ℕ) → k < n → f k ≡ false → first_from f k (n - k) ≡ first_from f (k + 1) (n - (k + 1))
 unfolding first_from
 first_later f k n h e =
     let m : n - k ≡ suc (n - suc k) = omega arith in
     let q : suc k ≡ k + 1 = omega arith in
-    ap (first_from f k) m ∙ ap (λ (t : Bool). cond t (Frame (suc k)) (first_from f (suc k) (n - suc k))) e
+    ap (first_from f k) m ∙ ap (λ (t : Bool). cond t (Some (suc k)) (first_from f (suc k) (n - suc k))) e
     ∙ ap (λ (j : ℕ). first_from f j (n - j)) q
 
 pub first-none : (f : ℕ → Bool) (n : ℕ) → first_from f n (n - n) ≡ None
@@ -122,51 +122,48 @@ map_get f [] k a b h = absurd (omega (arith, h))
 map_get f (x ∷ xs) zero a b h = refl
 map_get f (x ∷ xs) (suc k) a b h = map_get f xs k a b (omega (arith, h))
 
-module _ (f : ℕ → Recorded) (r : List ℕ) (n : ℕ) (h : n ≤ length r) where
+-- records behind a place lie within the bytes too
+pub behind-lies : (b r : List ℕ) (k : ℕ) → Inside b r → Inside b (drop k r)
+behind-lies b r k h i = rw (get_or-drop k r i 0) (h (k + i))
+
+module _ (f : ℕ → Recorded) (r : List ℕ) where
   abbrev frames : List Recorded
-  frames = map f (take n r)
+  frames = map f r
 
-  many : length (take n r) ≡ n
-  many = length-take-le n r h
+  pub frames_many : length frames ≡ length r
+  frames_many = length-map r f
 
-  pub frames_many : length frames ≡ n
-  frames_many = length-map (take n r) f ∙ many
+  pub frame_at : (k : ℕ) → k < length r → get_or frames k lost ≡ f (get_or r k 0)
+  frame_at k q = map_get f r k 0 lost q
 
-  pub frame_at : (k : ℕ) → k < n → get_or frames k lost ≡ f (get_or r k 0)
-  frame_at k q = map_get f (take n r) k 0 lost (omega (arith, many, q)) ∙ ap f (get_or-take n r k 0 q)
+  pub frames-from : (k : ℕ) → k < length r → map f (drop k r) ≡ f (get_or r k 0) ∷ map f (drop (suc k) r)
+  frames-from k q = ap (map f) (drop-cons r k 0 q)
 
-  pub frames-from : (k : ℕ) → k < n → map f (drop k (take n r)) ≡ f (get_or r k 0) ∷ map f (drop (suc k) (take n r))
-  frames-from k q =
-      ap (map f) (drop-cons (take n r) k 0 (omega (arith, many, q)))
-      ∙ ap (λ (i : ℕ). f i ∷ map f (drop (suc k) (take n r))) (get_or-take n r k 0 q)
-
-  pub frames-step : (l khz nb : ℤ) (s : SilkDecoderState) (k : ℕ) (d : Heard) → k < n → d ≡ heard_of l s (call_of khz nb (f (get_or r k 0)))
-      → passes l khz nb s (map f (drop k (take n r))) ≡ (d.loud || passes l khz nb d.state (map f (drop (k + 1) (take n r))))
+  pub frames-step : (l khz nb : ℤ) (s : SilkDecoderState) (k : ℕ) (d : Heard) → k < length r → d ≡ heard_of l s (call_of khz nb (f (get_or r k 0)))
+      → passes l khz nb s (map f (drop k r)) ≡ (d.loud || passes l khz nb d.state (map f (drop (k + 1) r)))
   frames-step l khz nb s k d q e =
       let m : suc k ≡ k + 1 = omega arith in
-      ap (passes l khz nb s) (frames-from k q) ∙ heard-step l khz nb s (f (get_or r k 0)) (map f (drop (suc k) (take n r))) d e
-      ∙ ap (λ (j : ℕ). d.loud || passes l khz nb d.state (map f (drop j (take n r)))) m
+      ap (passes l khz nb s) (frames-from k q) ∙ heard-step l khz nb s (f (get_or r k 0)) (map f (drop (suc k) r)) d e
+      ∙ ap (λ (j : ℕ). d.loud || passes l khz nb d.state (map f (drop j r))) m
 
-  frames-end : map f (drop n (take n r)) ≡ []
-  frames-end = ap (map f) (drop_of_length-le (take n r) {i = n} (omega (arith, many)))
-
-  pub frames_done : (l khz nb : ℤ) (s : SilkDecoderState) (k : ℕ) → k ≡ n → passes l khz nb s (map f (drop k (take n r))) ≡ false
-  frames_done l khz nb s k e = ap (λ (j : ℕ). passes l khz nb s (map f (drop j (take n r)))) e ∙ ap (passes l khz nb s) frames-end ∙ passes_nil l khz nb s
+  pub frames_done : (l khz nb : ℤ) (s : SilkDecoderState) (k : ℕ) → k ≡ length r → passes l khz nb s (map f (drop k r)) ≡ false
+  frames_done l khz nb s k e =
+      ap (λ (ks : List ℕ). passes l khz nb s (map f ks)) (drop_of_length-le r {i = k} (omega (arith, e))) ∙ passes_nil l khz nb s
 
   -- the test of a place, from the state before its frame
-  pub culprit_is : (l khz nb : ℤ) (s : SilkDecoderState) (k : ℕ) → k < n → passes l khz nb s frames ≡ false
+  pub culprit_is : (l khz nb : ℤ) (s : SilkDecoderState) (k : ℕ) → k < length r → passes l khz nb s frames ≡ false
       → is_culprit l khz nb s frames k
-      ≡ (was_received (f (get_or r k 0)) && passes l khz nb (state_at l khz nb s frames k) (lost ∷ map f (drop (k + 1) (take n r))))
+      ≡ (was_received (f (get_or r k 0)) && passes l khz nb (state_at l khz nb s frames k) (lost ∷ map f (drop (k + 1) r)))
   unfolding is_culprit
   culprit_is l khz nb s k q e =
       let a = frame_at k q in
       let b = from_the_loss l khz nb s frames k (omega (arith, frames_many, q)) e in
       let m : suc k ≡ k + 1 = omega arith in
-      let d : drop (suc k) frames ≡ map f (drop (k + 1) (take n r)) = map-drop f (suc k) (take n r) ∙ ap (λ (j : ℕ). map f (drop j (take n r))) m in
+      let d : drop (suc k) frames ≡ map f (drop (k + 1) r) = map-drop f (suc k) r ∙ ap (λ (j : ℕ). map f (drop j r)) m in
       (λ i. was_received (a i) && b i) ∙ ap (λ (xs : List Recorded). was_received (f (get_or r k 0)) && passes l khz nb (state_at l khz nb s frames k) (lost ∷ xs)) d
 
   -- the state before the next frame
-  pub state_on : (l khz nb : ℤ) (s : SilkDecoderState) (k : ℕ) → k < n
+  pub state_on : (l khz nb : ℤ) (s : SilkDecoderState) (k : ℕ) → k < length r
       → (sound_of (state_at l khz nb s frames k) (call_of khz nb (f (get_or r k 0)))).state ≡ state_at l khz nb s frames (k + 1)
   state_on l khz nb s k q =
       let m : suc k ≡ k + 1 = omega arith in

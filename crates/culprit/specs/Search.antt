@@ -1,11 +1,9 @@
 -- Document 02, Note 14: the smallest frame number whose loss alone brings a played sample beyond a limit L in size.
-use Rattle.std.specs.Prelude.{ℕ, zero, suc, Bool, true, false, cond, ◌&&◌, List, [], ◌∷◌, ℤ, get_or}
+use Rattle.std.specs.Prelude.{ℕ, zero, suc, Bool, true, false, cond, ◌&&◌, List, [], ◌∷◌, Option, Some, None, ℤ, get_or}
 use Rattle.decoder.specs.declared.SilkDecoderState.{SilkDecoderState}
 use Rattle.record.specs.Recorded.{Recorded, lost, received}
 use Rattle.playback.specs.Playback.{samples_from}
 use Rattle.heard.specs.Loud.{any_beyond}
-use Rattle.culprit.specs.declared.Culprit.{Culprit}
-use Rattle.culprit.specs.declared.Culprit.TheVariants.{Frame, None}
 
 -- the frames, with that at place k lost and all else as recorded
 unfoldable pub losing : List Recorded → ℕ → List Recorded
@@ -26,6 +24,6 @@ unfoldable pub is_culprit : ℤ → ℤ → ℤ → SilkDecoderState → List Re
 is_culprit limit khz nb s xs k = was_received (get_or xs k lost) && passes limit khz nb s (losing xs k)
 
 -- the first of n places from k on, as a frame number counted from 1
-unfoldable pub first_from : (ℕ → Bool) → ℕ → ℕ → Culprit
+unfoldable pub first_from : (ℕ → Bool) → ℕ → ℕ → Option ℕ
 first_from f k zero = None
-first_from f k (suc n) = cond (f k) (Frame (suc k)) (first_from f (suc k) n)
+first_from f k (suc n) = cond (f k) (Some (suc k)) (first_from f (suc k) n)

@@ -12,6 +12,8 @@ use lib.ListN.{get_or, length, replicate, length-append}
 use lib.Signed.{lt_z}
 use mir.Syntax.{w16, w32}
 use mir.Val.{SFits}
+use Rattle.std.specs.Bool.{then_some}
+use Rattle.std.specs.Option.{unwrap_or}
 use Rattle.word.specs.Int.{eq_ℤ}
 use Rattle.word.proofs.Lists.{length_snoc}
 use Rattle.word.proofs.Sizes.{abs-add, abs-sub, abs-mul, abs_neg, abs-fits, fits-abs}
@@ -33,7 +35,7 @@ use Rattle.decoder.specs.declared.Params.{Params}
 use Rattle.decoder.proofs.Types.{zero_fits, replicate-fits, set_words}
 use Rattle.decoder.proofs.Built.{words, words-front, typed_gain, typed_exc, typed_memory, typed_out_buf}
 use Rattle.excitation.specs.Excitation.{offset_q14, level, excited, generator_at, excitation}
-use Rattle.decode_core.specs.Core.{Core, transition, smoothed, gain_adjustment, setting_of, long, rewhitens, control_at, buffer_at, subframe, subframes, start, core_excitation, decode_core}
+use Rattle.decode_core.specs.Core.{Core, transition, transits, held_lag, smoothed, gain_adjustment, setting_of, long, rewhitens, control_at, buffer_at, subframe, subframes, start, core_excitation, decode_core}
 use Rattle.decode_core.specs.declared.Setting.{Setting}
 
 -- ---- the excitation
@@ -81,8 +83,8 @@ excitation-words o pulses seed h f (suc n) =
 pub record SettingFits (f : Setting) : Type 0 where
   pub length-fits : f.subfr_length ≤ 80
   pub history-fits : f.ltp_mem_length ≤ 320
-  pub lag_fits : SFits w32 f.lag_prev
-  pub kept : f.voiced ≡ true → f.transition ≡ false
+  pub lag_fits : SFits w32 (held_lag f)
+  pub kept : f.voiced ≡ true → transits f ≡ false
 
 -- what holds of the core after k subframes of a description c
 pub record CoreFits (f : Setting) (c : SilkDecoderControl) (k : ℕ) (b : Core) : Type 0 where
@@ -113,6 +115,10 @@ smoothed_typed c lag k t l h =
     middle-fits : Fit w16 middle
     middle-fits = set-fits (replicate 5 (pos 0)) 2 (pos 4096) (replicate-fits 5 (zero_fits w16)) (record { sfits = omega arith })
 
+held-fits : (b : Bool) (z : ℤ) → SFits w32 z → SFits w32 (unwrap_or (then_some b z) (pos 0))
+held-fits true z h = h
+held-fits false z h = record { sfits = omega arith }
+
 and_false : (a : Bool) → (a && false) ≡ false
 and_false true = refl
 and_false false = refl
@@ -125,11 +131,11 @@ either true h k = h
 either false h k = k
 
 module _ (f : Setting) (g : SettingFits f) where
-  control-kept : (c : SilkDecoderControl) (k : ℕ) (P : SilkDecoderControl → Type 0) → (f.transition ≡ true → k < 2 → P (smoothed c f.lag_prev k)) → P c → P (control_at f c k)
+  control-kept : (c : SilkDecoderControl) (k : ℕ) (P : SilkDecoderControl → Type 0) → (transits f ≡ true → k < 2 → P (smoothed c (held_lag f) k)) → P c → P (control_at f c k)
   unfolding control_at
-  control-kept c k P h d = go f.transition (ltb k 2) refl refl
+  control-kept c k P h d = go (transits f) (ltb k 2) refl refl
     where
-      go : (a b : Bool) → f.transition ≡ a → ltb k 2 ≡ b → P (cond (a && b) (smoothed c f.lag_prev k) c)
+      go : (a b : Bool) → transits f ≡ a → ltb k 2 ≡ b → P (cond (a && b) (smoothed c (held_lag f) k) c)
       go true true e l = h e (ltb-true k 2 l)
       go true false e l = d
       go false b e l = d
@@ -161,7 +167,7 @@ module _ (f : Setting) (g : SettingFits f) where
           samples =
               words (length-append b.samples _ ∙ more n k _ _ h.samples.count (played-length gain (map a b.memory) _ _ d n m.count))
               (append-fits b.samples _ h.samples.fits (played-frame gain (map a b.memory) _ _ d n));
-          control = control-kept b.control k TypedControl (λ e l. smoothed_typed b.control f.lag_prev k h.control g.lag_fits l) h.control;
+          control = control-kept b.control k TypedControl (λ e l. smoothed_typed b.control (held_lag f) k h.control g.lag_fits l) h.control;
           gains = control-kept b.control k (λ x. x.gains_q16 ≡ c.gains_q16) (λ e l. h.gains) h.gains;
           scale = control-kept b.control k (λ x. x.ltp_scale_q14 ≡ c.ltp_scale_q14) (λ e l. h.scale) h.scale;
           same = λ v. control-kept b.control k (λ x. x ≡ c) (λ e l. absurd (false≢true (sym (g.kept v) ∙ e))) (h.same v);
@@ -186,8 +192,8 @@ module _ (p : Shape) (n : Shaped p.rate p.subframes) (s : SilkDecoderState) (t :
       record {
         length-fits = omega (arith, n.rate_high);
         history-fits = omega (arith, n.rate_high);
-        lag_fits = t.lag_prev;
-        kept = λ v. rw v (and_false (lt_z (pos 0) s.loss_cnt && eq_ℤ s.prev_signal_type (pos 2)));
+        lag_fits = held-fits (transition s (is_voiced q.signal)) s.lag_prev t.lag_prev;
+        kept = λ v. rw (v, and_false (lt_z (pos 0) s.loss_cnt && eq_ℤ s.prev_signal_type (pos 2))) refl;
       }
 
   start_fits : CoreFits (setting_of p s q) c 0 (start p s c)

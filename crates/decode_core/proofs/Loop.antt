@@ -12,7 +12,7 @@ use lib.Seq.{get_or-set_same, get_or-set_other, drop-drop}
 use mir.Syntax.{w32}
 use Rattle.decoder.specs.Typed.{Words}
 use Rattle.decoder.specs.declared.SilkDecoderControl.{SilkDecoderControl}
-use Rattle.decode_core.specs.Core.{Core, smooth, smoothed, long, control_at, subframe, subframes}
+use Rattle.decode_core.specs.Core.{Core, transits, held_lag, smooth, smoothed, long, control_at, subframe, subframes}
 use Rattle.decode_core.specs.Ready.{Lag, Playable, Framed, held}
 use Rattle.decode_core.specs.declared.Setting.{Setting}
 use Rattle.decode_core.specs.declared.Carried.{Carried}
@@ -23,8 +23,8 @@ pub control_at_lags : (f : Setting) (c : SilkDecoderControl) (k : ℕ) → lengt
 unfolding control_at smoothed
 control_at_lags f c k = go (smooth f k)
   where
-    go : (b : Bool) → length (cond b (smoothed c f.lag_prev k) c).pitch_l ≡ length c.pitch_l
-    go true = length-set c.pitch_l k f.lag_prev
+    go : (b : Bool) → length (cond b (smoothed c (held_lag f) k) c).pitch_l ≡ length c.pitch_l
+    go true = length-set c.pitch_l k (held_lag f)
     go false = refl
 
 -- later lags are as they were
@@ -32,17 +32,17 @@ control_at_later : (f : Setting) (c : SilkDecoderControl) (k j : ℕ) → k < j 
 unfolding control_at smoothed
 control_at_later f c k j h = go (smooth f k)
   where
-    go : (b : Bool) → get_or (cond b (smoothed c f.lag_prev k) c).pitch_l j (pos 0) ≡ get_or c.pitch_l j (pos 0)
-    go true = get_or-set_other c.pitch_l k j f.lag_prev (pos 0) (λ e. omega arith)
+    go : (b : Bool) → get_or (cond b (smoothed c (held_lag f) k) c).pitch_l j (pos 0) ≡ get_or c.pitch_l j (pos 0)
+    go true = get_or-set_other c.pitch_l k j (held_lag f) (pos 0) (λ e. omega arith)
     go false = refl
 
-lag_at : (f : Setting) (c : SilkDecoderControl) (k : ℕ) → k < length c.pitch_l → (f.transition ≡ true → Lag f f.lag_prev) → (f.voiced ≡ true → Lag f (get_or c.pitch_l k (pos 0)))
+lag_at : (f : Setting) (c : SilkDecoderControl) (k : ℕ) → k < length c.pitch_l → (transits f ≡ true → Lag f (held_lag f)) → (f.voiced ≡ true → Lag f (get_or c.pitch_l k (pos 0)))
     → long f k ≡ true → Lag f (get_or (control_at f c k).pitch_l k (pos 0))
 unfolding control_at smoothed
-lag_at f c k h s v = go f.transition (ltb k 2) s
+lag_at f c k h s v = go (transits f) (ltb k 2) s
   where
-    go : (t u : Bool) → (t ≡ true → Lag f f.lag_prev) → ((t && u) || f.voiced) ≡ true → Lag f (get_or (cond (t && u) (smoothed c f.lag_prev k) c).pitch_l k (pos 0))
-    go true true s w = rw (get_or-set_same c.pitch_l k f.lag_prev (pos 0) h) (s refl)
+    go : (t u : Bool) → (t ≡ true → Lag f (held_lag f)) → ((t && u) || f.voiced) ≡ true → Lag f (get_or (cond (t && u) (smoothed c (held_lag f) k) c).pitch_l k (pos 0))
+    go true true s w = rw (get_or-set_same c.pitch_l k (held_lag f) (pos 0) h) (s refl)
     go true false s w = v w
     go false u s w = v w
 

@@ -10,7 +10,7 @@ use Rattle.macros.specs.Fixed.{smulww}
 use Rattle.sigproc.specs.Synthesis.{synthesis, played}
 use Rattle.sigproc.proofs.Fill.{length-map}
 use Rattle.decoder.specs.declared.SilkDecoderControl.{SilkDecoderControl}
-use Rattle.decode_core.specs.Core.{gain_adjustment, smooth, smoothed, control_at, subframe}
+use Rattle.decode_core.specs.Core.{gain_adjustment, held_lag, smooth, smoothed, control_at, subframe}
 use Rattle.decode_core.specs.Ready.{LongTerm, held}
 use Rattle.decode_core.specs.declared.Setting.{Setting}
 use Rattle.decode_core.specs.declared.Carried.{Carried}
@@ -20,7 +20,7 @@ pub control_at_gains : (f : Setting) (c : SilkDecoderControl) (k : ℕ) → (con
 unfolding control_at smoothed
 control_at_gains f c k = go (smooth f k)
   where
-    go : (b : Bool) → (cond b (smoothed c f.lag_prev k) c).gains_q16 ≡ c.gains_q16
+    go : (b : Bool) → (cond b (smoothed c (held_lag f) k) c).gains_q16 ≡ c.gains_q16
     go true = refl
     go false = refl
 

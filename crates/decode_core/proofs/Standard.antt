@@ -1,13 +1,14 @@
 -- The excitation that core leaves in the state is 64 times RFC 6716's.
-use mathlib.Core.Path.{sym, ap, subst, ◌∙◌}
+use mathlib.Core.Path.{◌≡◌, refl, ap, ◌∙◌}
 use mathlib.Core.List.{List}
 use lib.IntN.{ℤ}
 use lib.ListN.{length}
 use lib.Seq.{take_at}
-use Rattle.refusal.specs.Refusals.{refusal_number, if_accepted}
-use Rattle.refusal.specs.declared.Refusal.{Refusal}
+use Rattle.std.specs.Prelude.{Ok, Err, IfOk}
+use Rattle.refusal.specs.Refusals.{Judged, code_of}
 use Rattle.shape.specs.Shape.{Shape, frame_length}
 use Rattle.decoder.specs.Signals.{is_voiced}
+use Rattle.decoder.specs.Answer.{answer}
 use Rattle.decoder.specs.State.{shape_of}
 use Rattle.decoder.specs.declared.SilkDecoderState.{SilkDecoderState}
 use Rattle.decoder.specs.declared.SilkDecoderControl.{SilkDecoderControl}
@@ -18,7 +19,7 @@ use Rattle.excitation.specs.Excitation.{offset_q14}
 use Rattle.excitation.proofs.Samples.{length-excitation}
 use Rattle.excitation.proofs.Standard.{is_standard}
 use Rattle.decode_core.specs.Core.{core_excitation, decode_core}
-use Rattle.decode_core.specs.Answer.{core_refusal, core_answer}
+use Rattle.decode_core.specs.Answer.{core_refusal, core_outcome, core_answer}
 use Rattle.decode_core.specs.Standard.{HoldsStandard, CoreStandard}
 
 -- of a frame of one of the two offset types
@@ -33,7 +34,10 @@ holds_standard p s q c rows pulses b =
 
 pub core_standard : CoreStandard
 unfolding core_answer core_refusal
-core_standard s q c rows pulses output e =
-    let f = core-fits s q c (length pulses) (length output) (ap refusal_number e) in
-    let new = (decode_core (shape_of s) s q c rows pulses).state in
-    subst (HoldsStandard (shape_of s) q pulses) (sym (ap (λ (r : Refusal). if_accepted r new s) e)) (holds_standard (shape_of s) s q c rows pulses f.params.offset)
+core_standard s q c rows pulses output = go (core_refusal s q c rows pulses output) refl
+  where
+    go : (j : Judged) → core_refusal s q c rows pulses output ≡ j → IfOk (answer j (core_outcome s q c rows pulses output)) (λ a. HoldsStandard (shape_of s) q pulses a.state)
+    go (Ok u) e =
+        let f = core-fits s q c (length pulses) (length output) (ap code_of e) in
+        holds_standard (shape_of s) s q c rows pulses f.params.offset
+    go (Err r) e = tt

@@ -1,5 +1,7 @@
 -- Document 01, "Excitation and synthesis": a received frame's samples (decode_core.rs).
 use Rattle.std.specs.Prelude.{ℕ, zero, suc, ◌+◌, ◌-◌, ◌*◌, ◌/◌, ◌^◌, Bool, cond, not, ◌&&◌, ◌||◌, List, [], ◌∷◌, ◌++◌, map, eqb, ltb, ℤ, pos, nat_abs, ◌*ℤ◌, get_or, set, length, take, drop, replicate}
+use Rattle.std.specs.Bool.{then_some}
+use Rattle.std.specs.Option.{is_some, unwrap_or}
 use Rattle.std.specs.Int.Signed.{lt_z}
 use Rattle.word.specs.Int.{eq_ℤ, wrap32}
 use Rattle.word.specs.Tabulate.{tabulate}
@@ -90,14 +92,21 @@ setting_of p s q =
       lpc_order = lpc_order p;
       voiced = voiced;
       interpolated = within (pos 0) (pos 3) q.nlsf_interp_coef_q2;
-      transition = transition s voiced;
-      lag_prev = s.lag_prev;
+      transition = then_some (transition s voiced) s.lag_prev;
     }
 
 module _ (f : Setting) where
+  -- the frame is one of a transition
+  abbrev pub transits : Bool
+  transits = is_some f.transition
+
+  -- and its lag
+  abbrev pub held_lag : ℤ
+  held_lag = unwrap_or f.transition (pos 0)
+
   -- subframe k is one of the first two of a transition
   abbrev pub smooth : ℕ → Bool
-  smooth k = f.transition && ltb k 2
+  smooth k = transits && ltb k 2
 
   -- subframe k is played with long-term prediction
   abbrev pub long : ℕ → Bool
@@ -108,7 +117,7 @@ module _ (f : Setting) where
   rewhitens k = eqb k 0 || (eqb k 2 && f.interpolated)
 
   unfoldable pub control_at : SilkDecoderControl → ℕ → SilkDecoderControl
-  control_at c k = cond (smooth k) (smoothed c f.lag_prev k) c
+  control_at c k = cond (smooth k) (smoothed c held_lag k) c
 
   -- the history that rewhitening reads: for subframe 2 the first two subframes follow it
   unfoldable pub buffer_at : ℕ → List ℤ → List ℤ → List ℤ

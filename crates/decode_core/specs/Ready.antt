@@ -3,7 +3,7 @@ use Rattle.std.specs.Prelude.{ℕ, ◌+◌, ◌*◌, ◌<◌, ◌≤◌, ◌≡�
 use Rattle.std.specs.Int.{w32}
 use Rattle.decoder.specs.Typed.{Words}
 use Rattle.decoder.specs.declared.SilkDecoderControl.{SilkDecoderControl}
-use Rattle.decode_core.specs.Core.{Core, ltp_past, ltp_synthesis, long, rewhitens, control_at, buffer_at, past_at}
+use Rattle.decode_core.specs.Core.{Core, ltp_past, ltp_synthesis, transits, held_lag, long, rewhitens, control_at, buffer_at, past_at}
 use Rattle.decode_core.specs.declared.Carried.{Carried}
 use Rattle.decode_core.specs.declared.Setting.{Setting}
 
@@ -62,7 +62,7 @@ pub record Framed (f : Setting) (c : SilkDecoderControl) (n : ℕ) : Type 0 wher
   pub count : n ≤ 4
   pub gains : (k : ℕ) → k < n → get_or c.gains_q16 k (pos 0) ≡ pos 0 → ⊥
   pub lags : f.voiced ≡ true → (k : ℕ) → k < n → Lag f (get_or c.pitch_l k (pos 0))
-  pub smooth : f.transition ≡ true → Lag f f.lag_prev
+  pub smooth : transits f ≡ true → Lag f (held_lag f)
 
 -- what the first subframe starts from
 abbrev pub begin : Setting → Carried → List ℤ → List ℤ → Core

@@ -6,8 +6,8 @@ ghost use Rattle.std.specs.Prelude.{◌≡◌, true, cond, not, ◌&&◌, ◌⊎
 ghost use Rattle.std.specs.Int.Signed.{lt_z};
 ghost use Rattle.word.specs.Int.{eq_ℤ};
 ghost use Rattle.shape.specs.Shape.{frame_length, count_of};
-ghost use Rattle.decoder.specs.State.{shape_of};
 ghost use Rattle.decoder.specs.Ranges.{within};
+ghost use Rattle.decoder.specs.State.{shape_of};
 ghost use Rattle.macros.specs.Fixed.{smulwb, smulww};
 ghost use Rattle.sigproc.specs.Analysis.{residual};
 ghost use Rattle.std.specs.Int.{w32};
@@ -22,20 +22,12 @@ ghost use Rattle.decode_core.specs.Ready.{Ready, LongTerm, Playable, Framed, hel
 use decoder::{Answer, Params, SilkDecoderControl, SilkDecoderState, is_voiced};
 use excitation::{excite, offset_q14};
 use macros::{silk_add_lshift32, silk_div32_varq, silk_inverse32_varq, silk_smulwb, silk_smulww};
+use refusal::Refusal;
 use shape::{Rate, count_of};
-use sigproc::{
-    copy16_at, copy32_at, ltp_prediction, scale_out, silk_lpc_analysis_filter, synthesis,
-};
+use sigproc::{copy_at, ltp_prediction, scale_out, silk_lpc_analysis_filter, synthesis};
 use word::{shl32, wide8, wide16};
 
-// What a frame leaves beside its samples.
-#[derive(Clone, Copy)]
-struct CoreState {
-    state: SilkDecoderState,
-    control: SilkDecoderControl,
-}
-
-// What the subframes of a frame share. A transition is a frame that is not voiced after the loss of a voiced one.
+// What the subframes of a frame share. A transition, a frame that is not voiced after the loss of a voiced one, has that one's lag.
 #[derive(Clone, Copy)]
 pub struct Setting {
     pub subfr_length: usize,
@@ -43,8 +35,7 @@ pub struct Setting {
     pub lpc_order: usize,
     pub voiced: bool,
     pub interpolated: bool,
-    pub transition: bool,
-    pub lag_prev: i32,
+    pub transition: Option<i32>,
 }
 
 // What the subframes carry on beside their buffers: idx places of the long-term state are in use.
@@ -69,8 +60,8 @@ fn gain_adjustment(last: i32, gain: i32) -> i32
 fn adjust(xs: &mut [i32], adj: i32)
     ensures { xs.new ≡ map (smulww adj) xs.old }
 {
-    for i in 0..xs.len() {
-        xs[i] = silk_smulww(adj, xs[i]);
+    for x in xs.iter_mut() {
+        *x = silk_smulww(adj, *x);
     }
 }
 
@@ -79,15 +70,10 @@ fn weigh(past: &mut [i32], residual: &[i16], inverse: i32)
     requires { length past.old ≡ length residual.now }
     ensures { past.new ≡ map (smulwb inverse) residual.now }
 {
-    for i in 0..residual.len() {
-        past[i] = silk_smulwb(inverse, wide16(residual[i]));
+    // Not a zip: after one over `iter_mut` only the length of past is known.
+    for (i, r) in residual.iter().enumerate() {
+        past[i] = silk_smulwb(inverse, wide16(*r));
     }
-}
-
-fn silence() -> [i16; 480]
-    ensures { result ≡ replicate 480 (pos 0) }
-{
-    [0; 480]
 }
 
 // The last lag + 2 places before idx anew: the filter reads the history from its start place on and fills the same stretch.
@@ -105,7 +91,7 @@ fn rewhiten(
 {
     let from = idx - lag - 2;
     let start = from - d;
-    let mut residual = silence();
+    let mut residual = [0; 480];
     silk_lpc_analysis_filter(&mut residual[start..idx], &out_buf[start..idx], row, d);
     weigh(&mut past[from..idx], &residual[from..idx], inverse);
 }
@@ -116,10 +102,10 @@ fn ltp_synthesis(past: &mut [i32], idx: usize, taps: [i16; 5], lag: usize, res: 
     ensures { (past.new ≡ ltp_past (take idx past.old) taps lag res.old (length res.old) ++ drop (idx + length res.old) past.old)
         × (res.new ≡ ltp_synthesis (take idx past.old) taps lag res.old (length res.old)) }
 {
-    for i in 0..res.len() {
+    for (i, r) in res.iter_mut().enumerate() {
         let p = ltp_prediction(past, &taps, idx + i - lag + 2);
-        let v = silk_add_lshift32(res[i], p, 1);
-        res[i] = v;
+        let v = silk_add_lshift32(*r, p, 1);
+        *r = v;
         past[idx + i] = shl32(v, 1);
     }
 }
@@ -130,7 +116,7 @@ fn load(signal: &mut [i32], exc: &[i32], adj: i32)
     ensures { signal.new ≡ map (smulww adj) (take 16 signal.old) ++ exc.now }
 {
     adjust(&mut signal[..16], adj);
-    copy32_at(signal, 16, exc);
+    copy_at(signal, 16, exc);
 }
 
 // The last 16 samples come to the front.
@@ -139,9 +125,7 @@ fn keep(signal: &mut [i32])
     ensures { take 16 signal.new ≡ drop (length signal.old - 16) signal.old }
 {
     let n = signal.len() - 16;
-    for i in 0..16 {
-        signal[i] = signal[n + i];
-    }
+    signal.copy_within(n.., 0);
 }
 
 // The samples that the memory and the residual in signal make; their last 16 are the new memory.
@@ -163,21 +147,20 @@ fn smoothed(c: SilkDecoderControl, lag: i32, k: usize) -> SilkDecoderControl
     t.pitch_l[k] = lag;
     let mut taps = c.ltp_coef_q14;
     let middle: [i16; 5] = [0, 0, 4096, 0, 0];
-    copy16_at(&mut taps, 5 * k, &middle);
+    copy_at(&mut taps, 5 * k, &middle);
     t.ltp_coef_q14 = taps;
     t
 }
 
+#[tactic(auto, unfolding(crate::specs::Core::control_at))]
 fn control_at(f: Setting, c: SilkDecoderControl, k: usize) -> SilkDecoderControl
     requires { k < 4 }
     ensures { result ≡ control_at f c k }
 {
-    if f.transition {
-        if k < 2 {
-            return smoothed(c, f.lag_prev, k);
-        }
+    match f.transition {
+        Some(lag) if k < 2 => smoothed(c, lag, k),
+        _ => c,
     }
-    c
 }
 
 // The inverse of subframe k's gain (Q31), in subframe 0 times the LTP scale.
@@ -196,13 +179,7 @@ fn inverse_gain_q31(c: SilkDecoderControl, k: usize) -> i32
 fn rewhitens(f: Setting, k: usize) -> bool
     ensures { result ≡ rewhitens f k }
 {
-    if k == 0 {
-        true
-    } else if k == 2 {
-        f.interpolated
-    } else {
-        false
-    }
+    k == 0 || (k == 2 && f.interpolated)
 }
 
 // A lag as a length.
@@ -218,9 +195,8 @@ fn taps_at(taps: [i16; 20], k: usize) -> [i16; 5]
     ensures { result ≡ take 5 (drop (5 * k) taps) }
 {
     let at = 5 * k;
-    let end = at + 5;
-    let mut five: [i16; 5] = [0, 0, 0, 0, 0];
-    copy16_at(&mut five, 0, &taps[at..end]);
+    let mut five = [0; 5];
+    five.copy_from_slice(&taps[at..at + 5]);
     five
 }
 
@@ -230,7 +206,7 @@ fn buffer_at(f: Setting, k: usize, out_buf: &mut [i16], played: &[i16])
     ensures { out_buf.new ≡ buffer_at f k out_buf.old played.now }
 {
     if k == 2 {
-        copy16_at(out_buf, f.ltp_mem_length, played);
+        copy_at(out_buf, f.ltp_mem_length, played);
     }
 }
 
@@ -273,12 +249,7 @@ fn past_at(
 fn long(f: Setting, k: usize) -> bool
     ensures { result ≡ long f k }
 {
-    if f.transition {
-        if k < 2 {
-            return true;
-        }
-    }
-    f.voiced
+    (f.transition.is_some() && k < 2) || f.voiced
 }
 
 // Subframe k's residual from the excitation in res; the places of the long-term state in use after it.
@@ -307,7 +278,7 @@ fn long_term(
     idx
 }
 
-// Subframe k: signal holds the memory in front.
+// Subframe k: signal holds the memory in front. The buffers are lent one by one, since each step takes another part of them.
 fn subframe(
     f: Setting,
     k: usize,
@@ -376,18 +347,6 @@ fn subframes(
     t
 }
 
-fn zeros() -> [i32; 640]
-    ensures { result ≡ replicate 640 (pos 0) }
-{
-    [0; 640]
-}
-
-fn quiet() -> [i32; 96]
-    ensures { result ≡ replicate 96 (pos 0) }
-{
-    [0; 96]
-}
-
 // A frame of n subframes from its excitation; memory is the short-term memory before it and after.
 fn synthesise(
     f: Setting,
@@ -403,9 +362,9 @@ fn synthesise(
     ensures { Left (subframes f rows exc.now (begin f b memory.old out_buf.old) n) result memory.new out_buf.new xq.new (drop (f.subfr_length * n) xq.old) }
 {
     let end = 16 + f.subfr_length;
-    let mut signal = quiet();
-    let mut past = zeros();
-    copy32_at(&mut signal, 0, memory);
+    let mut signal = [0; 96];
+    let mut past = [0; 640];
+    copy_at(&mut signal, 0, memory);
     let t = subframes(
         f,
         n,
@@ -417,20 +376,14 @@ fn synthesise(
         out_buf,
         xq,
     );
-    copy32_at(memory, 0, &signal[..16]);
+    copy_at(memory, 0, &signal[..16]);
     t
 }
 
 fn transition(loss_cnt: i32, prev_signal_type: i32, voiced: bool) -> bool
     ensures { result ≡ (lt_z (pos 0) loss_cnt && eq_ℤ prev_signal_type (pos 2) && not voiced) }
 {
-    if loss_cnt > 0 {
-        return match prev_signal_type {
-            2 => !voiced,
-            _ => false,
-        };
-    }
-    false
+    loss_cnt > 0 && matches!(prev_signal_type, 2) && !voiced
 }
 
 // 0 to 3 interpolate the lines, 4 does not; row 5 lets no other pass.
@@ -453,7 +406,7 @@ pub fn setting_of(s: SilkDecoderState, q: Params) -> Setting
     let subfr_length = Rate::subfr_length(khz);
     let ltp_mem_length = Rate::ltp_mem_length(khz);
     let lpc_order = Rate::lpc_order(khz);
-    let transition = transition(s.loss_cnt, s.prev_signal_type, voiced);
+    let transition = transition(s.loss_cnt, s.prev_signal_type, voiced).then_some(s.lag_prev);
     let interpolated = interpolates(q.nlsf_interp_coef_q2);
     Setting {
         subfr_length,
@@ -462,7 +415,6 @@ pub fn setting_of(s: SilkDecoderState, q: Params) -> Setting
         voiced,
         interpolated,
         transition,
-        lag_prev: s.lag_prev,
     }
 }
 
@@ -497,7 +449,7 @@ fn decoded(
     rows: [[i16; 16]; 2],
     pulses: &[i16],
     xq: &mut [i16],
-) -> CoreState
+) -> Answer
     requires { Framed (setting_of (shape_of s) s q) c (count_of s.nb_subfr) × (frame_length (shape_of s) ≤ length pulses.now) × (frame_length (shape_of s) ≤ length xq.old) }
     ensures { (result.state ≡ (decode_core (shape_of s) s q c rows pulses.now).state) × (result.control ≡ (decode_core (shape_of s) s q c rows pulses.now).control)
         × (xq.new ≡ (decode_core (shape_of s) s q c rows pulses.now).samples ++ drop (frame_length (shape_of s)) xq.old) }
@@ -530,7 +482,7 @@ fn decoded(
     t.exc_q14 = exc;
     t.s_lpc_q14_buf = memory;
     t.out_buf = out_buf;
-    CoreState { state: t, control }
+    Answer { state: t, control }
 }
 
 pub fn silk_decode_core(
@@ -540,25 +492,11 @@ pub fn silk_decode_core(
     rows: [[i16; 16]; 2],
     pulses: &[i16],
     xq: &mut [i16],
-) -> Answer
+) -> Result<Answer, Refusal>
     ensures { (result ≡ core_answer s q c rows pulses.now xq.old) × (xq.new ≡ core_output s q c rows pulses.now xq.old) }
 {
-    let refusal = judge::core(s, q, c, pulses.len(), xq.len());
-    if refusal::number(refusal) != 0 {
-        return Answer {
-            refusal,
-            state: s,
-            control: c,
-        };
-    }
-    let d = decoded(s, q, c, rows, pulses, xq);
-    let state = d.state;
-    let control = d.control;
-    Answer {
-        refusal,
-        state,
-        control,
-    }
+    judge::core(s, q, c, pulses.len(), xq.len())?;
+    Ok(decoded(s, q, c, rows, pulses, xq))
 }
 
 // The excitation that core leaves in the state is 64 times RFC 6716's. The claim has no code: it is a contract.

@@ -1,8 +1,10 @@
 // The whole frame (decode_frame.rs).
+// Inner: play_received and play_lost.
 #![tactic(auto)]
 
-ghost use Rattle.std.specs.Prelude.{◌≡◌, true, false, cond, [], ◌≤◌, pos, nat_abs, length, replicate};
+ghost use Rattle.std.specs.Prelude.{Ok, ◌≡◌, true, false, cond, [], ◌≤◌, pos, nat_abs, length, replicate};
 ghost use Rattle.word.specs.Int.{eq_ℤ};
+ghost use Rattle.refusal.specs.Refusals.{code_of};
 ghost use Rattle.shape.specs.Shape.{is_rate, is_count, rate_of, count_of, frame_length};
 ghost use Rattle.decoder.specs.State.{shape_of};
 ghost use Rattle.decoder.specs.Settings.{squelched};
@@ -13,7 +15,7 @@ ghost use Rattle.decode_core.specs.Core.{setting_of};
 ghost use Rattle.decode_core.specs.Ready.{Framed};
 ghost use Rattle.decode_frame.specs.WholeFrame.{remembered, finished, received, lost, muted};
 ghost use Rattle.decode_frame.specs.Call.{frame_call};
-ghost use Rattle.decode_frame.specs.Answer.{frame_answer, frame_output};
+ghost use Rattle.decode_frame.specs.Answer.{frame_refusal, frame_answer, frame_output};
 ghost use Rattle.decode_frame.specs.Standard.{FrameStandard};
 
 use decode_core::{Carried, decode_core, setting_of};
@@ -21,16 +23,11 @@ use decoder::{Answer, Frame, Params, SilkDecoderControl, SilkDecoderState, resha
 use glue::{leave_energy, receive};
 use plc::conceal::plc_conceal;
 use plc::update::type_number;
+use refusal::Refusal;
 use shape::Rate;
 use sigproc::{update_out_buf, with_front};
 
-// The state and the description after a frame.
-#[derive(Clone, Copy)]
-struct Played {
-    state: SilkDecoderState,
-    control: SilkDecoderControl,
-}
-
+#[inline(always)]
 fn remembered(s: SilkDecoderState, frame: &[i16]) -> SilkDecoderState
     requires { (is_rate s.fs_khz ≡ true) × (is_count s.nb_subfr ≡ true) × (length frame.now ≡ frame_length (shape_of s)) }
     ensures { result ≡ remembered (shape_of s) s frame.now }
@@ -43,6 +40,7 @@ fn remembered(s: SilkDecoderState, frame: &[i16]) -> SilkDecoderState
 }
 
 // Noise, the energy for gluing and lag_prev of a lost frame.
+#[inline(always)]
 fn finished(s: SilkDecoderState, c: SilkDecoderControl, xq: &mut [i16]) -> SilkDecoderState
     requires { (is_rate s.fs_khz ≡ true) × (is_count s.nb_subfr ≡ true) × (cng_fits (rate_of s.fs_khz) s.s_cng ≡ true) × (length xq.old ≡ frame_length (shape_of s)) × (eq_ℤ s.loss_cnt (pos 0) ≡ false) }
     ensures { record { state = result; control = c; samples = xq.new } ≡ finished (shape_of s) (record { state = s; control = c; samples = xq.old }) }
@@ -71,15 +69,13 @@ fn finished(s: SilkDecoderState, c: SilkDecoderControl, xq: &mut [i16]) -> SilkD
 fn mute(b: bool, xq: &mut [i16])
     ensures { xq.new ≡ cond b (replicate (length xq.old) (pos 0)) xq.old }
 {
-    if !b {
-        return;
-    }
-    for i in 0..xq.len() {
-        xq[i] = 0;
+    if b {
+        xq.fill(0);
     }
 }
 
-fn lost(s: SilkDecoderState, c: SilkDecoderControl, xq: &mut [i16]) -> Played
+#[inline(always)]
+fn lost(s: SilkDecoderState, c: SilkDecoderControl, xq: &mut [i16]) -> Answer
     requires { Accepted (rate_of s.fs_khz) s × (eq_ℤ s.loss_cnt (pos 2147483647) ≡ false) × (length xq.old ≡ frame_length (shape_of s)) }
     ensures { record { state = result.state; control = result.control; samples = xq.new } ≡ muted (shape_of s) (squelched s) (lost (shape_of s) s c) }
 {
@@ -89,7 +85,7 @@ fn lost(s: SilkDecoderState, c: SilkDecoderControl, xq: &mut [i16]) -> Played
     let t = remembered(concealed, xq);
     let u = finished(t, control, xq);
     mute(squelched(s), xq);
-    Played { state: u, control }
+    Answer { state: u, control }
 }
 
 fn received(
@@ -100,7 +96,7 @@ fn received(
     lines: [i16; 16],
     pulses: &[i16],
     xq: &mut [i16],
-) -> Played
+) -> Answer
     requires { Accepted (rate_of s.fs_khz) s × Framed (setting_of (shape_of s) s q) c (count_of s.nb_subfr) × (frame_length (shape_of s) ≤ length pulses.now) × (length xq.old ≡ frame_length (shape_of s)) }
     ensures { record { state = result.state; control = result.control; samples = xq.new } ≡ received (shape_of s) s q c rows lines pulses.now }
 {
@@ -162,7 +158,46 @@ fn received(
         s_plc,
         settings,
     };
-    Played { state, control }
+    Answer { state, control }
+}
+
+// A received frame of a coming shape that no row refuses. A Result of a state would be copied, so a program whose state lies in slices calls this.
+#[inline(always)]
+pub fn play_received(
+    s: SilkDecoderState,
+    khz: i32,
+    nb_subfr: i32,
+    q: Params,
+    c: SilkDecoderControl,
+    rows: [[i16; 16]; 2],
+    lines: [i16; 16],
+    pulses: &[i16],
+    xq: &mut [i16],
+) -> Answer
+    requires { code_of (frame_refusal s (frame_call khz nb_subfr (Received q) c rows lines pulses.now xq.old)) ≡ 0 }
+    ensures { (Ok result ≡ frame_answer s (frame_call khz nb_subfr (Received q) c rows lines pulses.now xq.old))
+        × (xq.new ≡ frame_output s (frame_call khz nb_subfr (Received q) c rows lines pulses.now xq.old)) }
+{
+    let n = shape::frame_length(khz, nb_subfr);
+    let t = reshaped(s, khz, nb_subfr);
+    received(t, q, c, rows, lines, pulses, &mut xq[..n])
+}
+
+// A lost one, likewise.
+#[inline(always)]
+pub fn play_lost(
+    s: SilkDecoderState,
+    khz: i32,
+    nb_subfr: i32,
+    c: SilkDecoderControl,
+    xq: &mut [i16],
+) -> Answer
+    requires { code_of (frame_refusal s (frame_call khz nb_subfr Lost c [] [] [] xq.old)) ≡ 0 }
+    ensures { (Ok result ≡ frame_answer s (frame_call khz nb_subfr Lost c [] [] [] xq.old)) × (xq.new ≡ frame_output s (frame_call khz nb_subfr Lost c [] [] [] xq.old)) }
+{
+    let n = shape::frame_length(khz, nb_subfr);
+    let t = reshaped(s, khz, nb_subfr);
+    lost(t, c, &mut xq[..n])
 }
 
 // A received frame of a coming shape: refused, it changes nothing.
@@ -176,28 +211,12 @@ pub fn received_frame(
     lines: [i16; 16],
     pulses: &[i16],
     xq: &mut [i16],
-) -> Answer
+) -> Result<Answer, Refusal>
     ensures { (result ≡ frame_answer s (frame_call khz nb_subfr (Received q) c rows lines pulses.now xq.old))
         × (xq.new ≡ frame_output s (frame_call khz nb_subfr (Received q) c rows lines pulses.now xq.old)) }
 {
-    let refusal = judge::received(s, khz, nb_subfr, q, c, lines, pulses.len(), xq.len());
-    if refusal::number(refusal) != 0 {
-        return Answer {
-            refusal,
-            state: s,
-            control: c,
-        };
-    }
-    let n = shape::frame_length(khz, nb_subfr);
-    let t = reshaped(s, khz, nb_subfr);
-    let o = received(t, q, c, rows, lines, pulses, &mut xq[..n]);
-    let state = o.state;
-    let control = o.control;
-    Answer {
-        refusal,
-        state,
-        control,
-    }
+    judge::received(s, khz, nb_subfr, q, c, lines, pulses.len(), xq.len())?;
+    Ok(play_received(s, khz, nb_subfr, q, c, rows, lines, pulses, xq))
 }
 
 // A lost frame of a coming shape: refused, it changes nothing.
@@ -207,27 +226,11 @@ pub fn lost_frame(
     nb_subfr: i32,
     c: SilkDecoderControl,
     xq: &mut [i16],
-) -> Answer
+) -> Result<Answer, Refusal>
     ensures { (result ≡ frame_answer s (frame_call khz nb_subfr Lost c [] [] [] xq.old)) × (xq.new ≡ frame_output s (frame_call khz nb_subfr Lost c [] [] [] xq.old)) }
 {
-    let refusal = judge::lost(s, khz, nb_subfr, xq.len());
-    if refusal::number(refusal) != 0 {
-        return Answer {
-            refusal,
-            state: s,
-            control: c,
-        };
-    }
-    let n = shape::frame_length(khz, nb_subfr);
-    let t = reshaped(s, khz, nb_subfr);
-    let o = lost(t, c, &mut xq[..n]);
-    let state = o.state;
-    let control = o.control;
-    Answer {
-        refusal,
-        state,
-        control,
-    }
+    judge::lost(s, khz, nb_subfr, xq.len())?;
+    Ok(play_lost(s, khz, nb_subfr, c, xq))
 }
 
 pub fn silk_decode_frame(
@@ -240,7 +243,7 @@ pub fn silk_decode_frame(
     lines: [i16; 16],
     pulses: &[i16],
     xq: &mut [i16],
-) -> Answer
+) -> Result<Answer, Refusal>
     ensures { (result ≡ frame_answer s (frame_call khz nb_subfr f c rows lines pulses.now xq.old))
         × (xq.new ≡ frame_output s (frame_call khz nb_subfr f c rows lines pulses.now xq.old)) }
 {

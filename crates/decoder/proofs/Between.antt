@@ -1,7 +1,7 @@
 -- Tests that hold together, and the ranges of numbers that they say.
 use Prim.Native.Nat.{ℕ, zero, suc, ◌<◌, ◌≤◌, zero-le}
 use mathlib.Core.Path.{◌≡◌, refl, sym}
-use mathlib.Core.Bool.{Bool, true, false, not, cond, ◌&&◌, false≢true}
+use mathlib.Core.Bool.{Bool, true, false, not, cond, ◌&&◌, ◌||◌, false≢true}
 use mathlib.Core.List.{List, [], ◌∷◌}
 use native.Mathlib.Omega.{arith}
 use native.Mathlib.Nat.{le_refl, not-suc-le-zero}
@@ -52,6 +52,16 @@ pub only_if_lem : (c b : Bool) → (c ≡ true → b ≡ true) → only_if c b �
 unfolding only_if
 only_if_lem true b h = h refl
 only_if_lem false b h = refl
+
+pub only-or : (c b : Bool) → (not c || b) ≡ only_if c b
+unfolding only_if
+only-or true b = refl
+only-or false b = refl
+
+pub only-not : (c b : Bool) → (c && not b) ≡ not (only_if c b)
+unfolding only_if
+only-not true b = refl
+only-not false b = refl
 
 -- ---- ranges
 pub record Between (a b : ℕ) (z : ℤ) : Type 0 where

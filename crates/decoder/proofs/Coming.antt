@@ -12,8 +12,7 @@ use mir.Syntax.{w16, w32}
 use mir.Val.{SFits}
 use Rattle.word.specs.Int.{eq_ℤ}
 use Rattle.word.proofs.Order.{eq_ℤ_true, eq_ℤ_refl}
-use Rattle.refusal.specs.First.{◌gives◌, first_or}
-use Rattle.refusal.specs.declared.Refusal.{Refusal}
+use Rattle.refusal.specs.First.{◌gives◌, first_of}
 use Rattle.refusal.specs.declared.Refusal.TheVariants.{Rate, Size, History}
 use Rattle.refusal.proofs.Clear.{Clear}
 use Rattle.shape.specs.Shape.{is_rate, is_count, rate_of}
@@ -52,9 +51,9 @@ unfolding history_row decoder_fits reshaped reshaped_by
 held-history nb s = rw (eq_ℤ_refl s.fs_khz) refl
 
 -- so the shape that it holds meets the rows of the state alone
-pub held_rows : (s : SilkDecoderState) (other : Refusal) → first_or (coming_rows s.fs_khz s.nb_subfr s) other ≡ first_or (state_rows s) other
-unfolding first_or
-held_rows s other = go (rate_row s) (size_row s) refl refl
+pub held_rows : (s : SilkDecoderState) → first_of (coming_rows s.fs_khz s.nb_subfr s) ≡ first_of (state_rows s)
+unfolding first_of
+held_rows s = go (rate_row s) (size_row s) refl refl
   where
     khz : ℤ
     khz = s.fs_khz
@@ -63,8 +62,8 @@ held_rows s other = go (rate_row s) (size_row s) refl refl
     nb = s.nb_subfr
 
     go : (a b : Bool) → rate_row s ≡ a → size_row s ≡ b
-        → first_or ((a gives Rate) ∷ (a gives Rate) ∷ (b gives Size) ∷ (not (is_count nb) gives Size) ∷ (history_row (rate_of khz) (reshaped khz nb s) gives History) ∷ []) other
-        ≡ first_or ((a gives Rate) ∷ (b gives Size) ∷ (history_row (rate_of khz) s gives History) ∷ []) other
+        → first_of ((a gives Rate) ∷ (a gives Rate) ∷ (b gives Size) ∷ (not (is_count nb) gives Size) ∷ (history_row (rate_of khz) (reshaped khz nb s) gives History) ∷ [])
+        ≡ first_of ((a gives Rate) ∷ (b gives Size) ∷ (history_row (rate_of khz) s gives History) ∷ [])
     go true b e f = refl
     go false true e f = refl
     go false false e f = rw ((size-bounds s e f).count, held-history nb s) refl

@@ -8,4 +8,3 @@ pub mod Types
 pub mod SetUps
 pub mod Built
 pub mod Coming
-pub mod Answers

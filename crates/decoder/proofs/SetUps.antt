@@ -1,7 +1,7 @@
 -- Set-up at a rate and a count: nothing is refused, and the state is accepted and typed.
 use Prim.Native.Nat.{ℕ, zero, suc, ◌<◌, zero-le}
 use mathlib.Core.Path.{◌≡◌, refl, ap}
-use mathlib.Core.Bool.{true, not}
+use mathlib.Core.Bool.{true, not, ◌&&◌}
 use native.Mathlib.Omega.{arith}
 use native.Mathlib.Nat.{not-suc-le-zero}
 use lib.Dec.{lit≤, lit<}
@@ -12,8 +12,10 @@ use mir.Val.{SFits}
 use Rattle.word.proofs.Rows.{both}
 use Rattle.edition.specs.Edition.{is_edition}
 use Rattle.edition.proofs.Editions.{edition_fits}
-use Rattle.refusal.specs.First.{first_or}
-use Rattle.refusal.specs.declared.Refusal.TheVariants.{Nothing}
+use Rattle.std.specs.Prelude.{Ok}
+use Rattle.refusal.specs.First.{first_of}
+use Rattle.refusal.specs.Refusals.{code_of}
+use Rattle.refusal.proofs.Clear.{clear, answered_ok, answered_is}
 use Rattle.shape.specs.Shape.{is_rate, is_count, rate_of, order_of}
 use Rattle.shape.proofs.Shapes.{rates, rate_range, rate_kept, count_kept, count_le}
 use Rattle.decoder.specs.Settings.{is_squelch, settings_fit, default_settings}
@@ -23,21 +25,43 @@ use Rattle.decoder.specs.Typed.{Typed, TypedCng, TypedPlc, TypedSettings}
 use Rattle.decoder.specs.Accepted.{Accepted}
 use Rattle.decoder.specs.declared.Settings.{Settings}
 use Rattle.decoder.specs.declared.SilkDecoderState.{SilkDecoderState}
-use Rattle.decoder.proofs.Between.{between, AllBetween}
+use Rattle.decoder.proofs.Between.{between, passes, AllBetween}
 use Rattle.decoder.proofs.Bounds.{size_fits, history-fits}
 use Rattle.decoder.proofs.Built.{in_range, between_32, typed_settings, typed_sizes}
 use Rattle.decoder.proofs.Tests.{small, small_rate, small-frame, small_order}
 use Rattle.decoder.proofs.Types.{zero_fits, zeros-words}
 
-pub set_up_accepts : (khz nb : ℤ) (v : Settings) → is_rate khz ≡ true → is_count nb ≡ true → settings_fit v ≡ true → set_up_refusal khz nb v ≡ Nothing
-unfolding set_up_refusal first_or settings_fit
+pub set_up_accepts : (khz nb : ℤ) (v : Settings) → is_rate khz ≡ true → is_count nb ≡ true → settings_fit v ≡ true → set_up_refusal khz nb v ≡ Ok tt
+unfolding set_up_refusal first_of settings_fit
 set_up_accepts khz nb v e f g =
     let h = both (is_squelch v.squelch) (is_edition v.edition) g in
     rw (e, f, h.0, h.1)
 
-pub set_up_state : (khz nb : ℤ) (v : Settings) → is_rate khz ≡ true → is_count nb ≡ true → settings_fit v ≡ true → (set_up_with khz nb v).state ≡ state_from khz nb v
+pub set_up_state : (khz nb : ℤ) (v : Settings) → is_rate khz ≡ true → is_count nb ≡ true → settings_fit v ≡ true → set_up_with khz nb v ≡ Ok (state_from khz nb v)
 unfolding set_up_with
-set_up_state khz nb v e f g = rw (set_up_accepts khz nb v e f g)
+set_up_state khz nb v e f g = answered_ok _ (state_from khz nb v) (set_up_accepts khz nb v e f g)
+
+-- a set-up that is accepted has a rate, a count and settings in range, and gives the state for them
+pub record Fresh (khz nb : ℤ) (v : Settings) (s : SilkDecoderState) : Type 0 where
+  pub rate : is_rate khz ≡ true
+  pub count : is_count nb ≡ true
+  pub settings : settings_fit v ≡ true
+  pub state : state_from khz nb v ≡ s
+
+pub set_up-shaped : (khz nb : ℤ) (v : Settings) → code_of (set_up_refusal khz nb v) ≡ 0 → (is_rate khz ≡ true) × (is_count nb ≡ true) × (settings_fit v ≡ true)
+unfolding set_up_refusal settings_fit
+set_up-shaped khz nb v e =
+    let h = clear _ e in
+    let q = passes (is_squelch v.squelch) h.1.1.0 in
+    let d = passes (is_edition v.edition) h.1.1.1.0 in
+    (passes (is_rate khz) h.0, passes (is_count nb) h.1.0, (λ i. q i && d i))
+
+pub set_up-fresh : (khz nb : ℤ) (v : Settings) (s : SilkDecoderState) → set_up_with khz nb v ≡ Ok s → Fresh khz nb v s
+unfolding set_up_with
+set_up-fresh khz nb v s e =
+    let a = answered_is (set_up_refusal khz nb v) (state_from khz nb v) s e in
+    let h = set_up-shaped khz nb v a.0 in
+    record { rate = h.0; count = h.1; settings = h.2; state = a.1 }
 
 -- ---- accepted
 pub zero_at : (n i : ℕ) → get_or (replicate n (pos 0)) i (pos 0) ≡ pos 0
@@ -162,12 +186,6 @@ settings_typed v g =
     let h = both (is_squelch v.squelch) (is_edition v.edition) g in
     record { squelch = between_32 (between 0 10000 v.squelch h.0) (lit< tt); edition = edition_fits v.edition h.1 }
 
-pub set_up-accepted : (khz nb : ℤ) (v : Settings) → is_rate khz ≡ true → is_count nb ≡ true → settings_fit v ≡ true → Accepted (rate_of khz) (set_up_with khz nb v).state
-set_up-accepted khz nb v e f g = rw (set_up_state khz nb v e f g) (fresh-accepted khz nb v e f g)
-
-fresh_typed : (khz nb : ℤ) (v : Settings) → is_rate khz ≡ true → is_count nb ≡ true → TypedSettings v → Typed (state_from khz nb v)
+pub fresh_typed : (khz nb : ℤ) (v : Settings) → is_rate khz ≡ true → is_count nb ≡ true → settings_fit v ≡ true → Typed (state_from khz nb v)
 unfolding state_from
-fresh_typed khz nb v e f g = typed_settings (typed_shape khz nb e f default_typed) g
-
-pub set_up_typed : (khz nb : ℤ) (v : Settings) → is_rate khz ≡ true → is_count nb ≡ true → settings_fit v ≡ true → Typed (set_up_with khz nb v).state
-set_up_typed khz nb v e f g = rw (set_up_state khz nb v e f g) (fresh_typed khz nb v e f (settings_typed v g))
+fresh_typed khz nb v e f g = typed_settings (typed_shape khz nb e f default_typed) (settings_typed v g)

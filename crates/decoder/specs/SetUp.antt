@@ -1,14 +1,13 @@
 -- Document 01, "Set-up gives the crate's default state with these sizes filled in" (decoder_structs.rs, Default).
-use Rattle.std.specs.Prelude.{not, [], ◌∷◌, ℤ, pos, replicate}
+use Rattle.std.specs.Prelude.{Result, not, [], ◌∷◌, ℤ, pos, replicate}
+use Rattle.refusal.specs.Refusals.{Judged, answered}
 use Rattle.refusal.specs.First.{◌gives◌, first_of}
 use Rattle.refusal.specs.declared.Refusal.{Refusal}
 use Rattle.refusal.specs.declared.Refusal.TheVariants.{Rate, Size, Squelch, Edition}
 use Rattle.shape.specs.Shape.{is_rate, is_count}
 use Rattle.edition.specs.Edition.{is_edition}
 use Rattle.decoder.specs.With.{with_shape, with_settings}
-use Rattle.decoder.specs.Answer.{state_answer}
 use Rattle.decoder.specs.Settings.{is_squelch, default_settings}
-use Rattle.decoder.specs.declared.StateAnswer.{StateAnswer}
 use Rattle.decoder.specs.declared.Settings.{Settings}
 use Rattle.decoder.specs.declared.SilkCNGState.{SilkCNGState}
 use Rattle.decoder.specs.declared.SilkPLCState.{SilkPLCState}
@@ -72,14 +71,14 @@ unfoldable pub state_from : ℤ → ℤ → Settings → SilkDecoderState
 state_from khz nb v = with_settings (with_shape silk_default khz nb) v
 
 -- rows 1 and 2 for a rate and a count alone, and 14 and 22 (document 02, Notes 3 and 10) for the settings
-unfoldable pub set_up_refusal : ℤ → ℤ → Settings → Refusal
+unfoldable pub set_up_refusal : ℤ → ℤ → Settings → Judged
 set_up_refusal khz nb v =
     first_of ((not (is_rate khz) gives Rate) ∷ (not (is_count nb) gives Size) ∷ (not (is_squelch v.squelch) gives Squelch) ∷ (not (is_edition v.edition) gives Edition) ∷ [])
 
--- set-up for a rate, a count of subframes and settings; refused, it gives the default state with no shape and the default settings
-unfoldable pub set_up_with : ℤ → ℤ → Settings → StateAnswer
-set_up_with khz nb v = state_answer (set_up_refusal khz nb v) (state_from khz nb v) (state_from (pos 0) (pos 0) default_settings)
+-- set-up for a rate, a count of subframes and settings
+unfoldable pub set_up_with : ℤ → ℤ → Settings → Result SilkDecoderState Refusal
+set_up_with khz nb v = answered (set_up_refusal khz nb v) (state_from khz nb v)
 
 -- set-up that names no settings
-unfoldable pub set_up : ℤ → ℤ → StateAnswer
+unfoldable pub set_up : ℤ → ℤ → Result SilkDecoderState Refusal
 set_up khz nb = set_up_with khz nb default_settings

@@ -2,7 +2,7 @@
 // Inner: every function but set_up, set_up_with, played and same_shape.
 #![tactic(auto)]
 
-ghost use Rattle.std.specs.Prelude.{◌≡◌, cond, ◌&&◌, ◌||◌, ◌<◌, ◌≤◌, ℤ, pos, length, take, replicate};
+ghost use Rattle.std.specs.Prelude.{◌≡◌, cond, ◌&&◌, ◌||◌, ◌<◌, ◌≤◌, ℤ, pos, length, map, take};
 ghost use Rattle.word.specs.Int.{eq_ℤ};
 ghost use Rattle.shape.specs.Shape.{rate_of, shape};
 ghost use Rattle.decoder.specs.Signals.{signal_number, signal_of, is_type, is_voiced};
@@ -16,7 +16,7 @@ ghost use Rattle.decoder.specs.Played.{played_length};
 ghost use Rattle.decoder.specs.Claims.{SameShape};
 
 use edition::{NEWER, is_edition};
-use refusal::Refusal;
+use refusal::{Refusal, refuse_if};
 use shape::Rate;
 use word::{mul32, sum64, wide, wide16};
 
@@ -50,7 +50,7 @@ pub struct SilkPLCState {
 }
 
 // What set-up names and no frame changes.
-#[derive(Clone, Copy)]
+#[derive(Clone, Copy, Debug, PartialEq, Eq)]
 pub struct Settings {
     pub squelch: i32,
     pub edition: i32,
@@ -88,7 +88,7 @@ pub struct SilkDecoderControl {
 }
 
 // The signal type; what Other is, its number decides.
-#[derive(Clone, Copy)]
+#[derive(Clone, Copy, Debug, PartialEq, Eq)]
 pub enum Signal {
     NoVoiceActivity,
     Unvoiced,
@@ -97,7 +97,7 @@ pub enum Signal {
 }
 
 // The small numbers of a received frame.
-#[derive(Clone, Copy)]
+#[derive(Clone, Copy, Debug, PartialEq, Eq)]
 pub struct Params {
     pub signal: Signal,
     pub quant_offset_type: i8,
@@ -105,23 +105,15 @@ pub struct Params {
     pub seed: i8,
 }
 
-#[derive(Clone, Copy)]
+#[derive(Clone, Copy, Debug, PartialEq, Eq)]
 pub enum Frame {
     Received(Params),
     Lost,
 }
 
-// The answer of a call that gives a new state: refused, the one lent.
-#[derive(Clone, Copy)]
-pub struct StateAnswer {
-    pub refusal: Refusal,
-    pub state: SilkDecoderState,
-}
-
-// The answer of a call that gives a new state and a new description: refused, those lent.
+// The new state and the new description that a call gives.
 #[derive(Clone, Copy)]
 pub struct Answer {
-    pub refusal: Refusal,
     pub state: SilkDecoderState,
     pub control: SilkDecoderControl,
 }
@@ -138,25 +130,14 @@ pub fn either(a: bool, b: bool) -> bool
     if a { true } else { b }
 }
 
-// b, where c holds.
-pub fn only_if(c: bool, b: bool) -> bool
-    ensures { result ≡ only_if c b }
-{
-    if c { b } else { true }
-}
-
+// An `if` in place would split decoder_fits into eight ways, each with an answer of its own.
 fn chosen(c: bool, a: i32, b: i32) -> i32
     ensures { result ≡ cond c a b }
 {
     if c { a } else { b }
 }
 
-fn same(a: i32, b: i32) -> bool
-    ensures { result ≡ eq_ℤ a b }
-{
-    a == b
-}
-
+// An `==` in place would need the law of a word's bits in each caller's answer.
 pub fn equals(z: i32, n: usize) -> bool
     requires { n < 2147483648 }
     ensures { result ≡ eq_ℤ z (pos n) }
@@ -167,29 +148,41 @@ pub fn equals(z: i32, n: usize) -> bool
 pub fn within(low: i32, high: i32, z: i32) -> bool
     ensures { result ≡ within low high z }
 {
-    both(low <= z, z <= high)
+    (low <= z) & (z <= high)
+}
+
+// A number of up to 32 bits.
+pub trait Number: Copy {
+    ghost number: { Self → ℤ };
+
+    fn number(self) -> i32
+        ensures { result ≡ number self };
+}
+
+impl Number for i16 {
+    ghost number = { λ x. x };
+
+    fn number(self) -> i32 {
+        i32::from(self)
+    }
+}
+
+impl Number for i32 {
+    ghost number = { λ x. x };
+
+    fn number(self) -> i32 {
+        self
+    }
 }
 
 // The first n elements lie in low to high.
-pub fn all_within(low: i32, high: i32, xs: &[i32], n: usize) -> bool
+pub fn all_within<T: Number>(low: i32, high: i32, xs: &[T], n: usize) -> bool
     requires { n ≤ length xs.now }
-    ensures { result ≡ all_within low high xs.now n }
+    ensures { result ≡ all_within low high (map T.number xs.now) n }
 {
     let mut ok = true;
-    for i in 0..n {
-        ok = both(ok, within(low, high, xs[i]));
-    }
-    ok
-}
-
-// The same in 16 bits.
-pub fn all_within16(low: i32, high: i32, xs: &[i16], n: usize) -> bool
-    requires { n ≤ length xs.now }
-    ensures { result ≡ all_within low high xs.now n }
-{
-    let mut ok = true;
-    for i in 0..n {
-        ok = both(ok, within(low, high, wide16(xs[i])));
+    for x in &xs[..n] {
+        ok &= within(low, high, x.number());
     }
     ok
 }
@@ -203,25 +196,25 @@ pub fn is_lag(khz: i32, z: i32) -> bool
 pub fn lines_fit(khz: i32, lines: &[i16; 16]) -> bool
     ensures { result ≡ lines_fit (rate_of khz) lines.now }
 {
-    all_within16(0, 32767, lines, Rate::lpc_order(khz))
+    all_within(0, 32767, lines, Rate::lpc_order(khz))
 }
 
 fn taps_held(taps: &[i16; 5]) -> bool
     ensures { result ≡ taps_held taps.now }
 {
-    let mut ok = equals(wide16(taps[0]), 0);
-    ok = both(ok, equals(wide16(taps[1]), 0));
-    ok = both(ok, within(-11456, 15565, wide16(taps[2])));
-    ok = both(ok, equals(wide16(taps[3]), 0));
-    both(ok, equals(wide16(taps[4]), 0))
+    equals(wide16(taps[0]), 0)
+        & equals(wide16(taps[1]), 0)
+        & within(-11456, 15565, wide16(taps[2]))
+        & equals(wide16(taps[3]), 0)
+        & equals(wide16(taps[4]), 0)
 }
 
 fn subframes_held(khz: i32, n: i32, l: i32) -> bool
     ensures { result ≡ subframes_held (rate_of khz) n l }
 {
-    let few = both(equals(n, 2), equals(l, 20));
-    let counted = either(equals(n, 2), equals(n, 4));
-    either(few, both(counted, equals(l, Rate::subfr_length(khz))))
+    let few = equals(n, 2) & equals(l, 20);
+    let counted = equals(n, 2) | equals(n, 4);
+    few | (counted & equals(l, Rate::subfr_length(khz)))
 }
 
 // What concealment holds for its own rate.
@@ -231,53 +224,47 @@ fn plc_held(khz: i32, h: SilkPLCState) -> bool
     let low = mul32(256, Rate::lag_min(khz));
     let high = mul32(256, Rate::lag_max(khz));
     let gains = h.prev_gain_q16;
-    let mut ok = within(low, high, h.pitch_l_q8);
-    ok = both(ok, all_within(65536, 1686110208, &gains, 2));
-    both(ok, subframes_held(khz, h.nb_subfr, h.subfr_length))
+    within(low, high, h.pitch_l_q8)
+        & all_within(65536, 1686110208, &gains, 2)
+        & subframes_held(khz, h.nb_subfr, h.subfr_length)
 }
 
 fn plc_fits(khz: i32, h: SilkPLCState) -> bool
     ensures { result ≡ plc_fits (rate_of khz) h }
 {
     let taps = h.ltp_coef_q14;
-    let mut ok = within(0, 1, h.last_frame_lost);
-    ok = both(ok, taps_held(&taps));
-    ok = both(ok, within(0, 27840, wide16(h.rand_scale_q14)));
-    ok = both(ok, within(0, 16384, wide16(h.prev_ltp_scale_q14)));
-    ok = both(ok, 0 <= h.conc_energy);
-    ok = both(ok, within(0, 31, h.conc_energy_shift));
-    both(
-        ok,
-        only_if(equals(h.fs_khz, shape::rate_of(khz)), plc_held(khz, h)),
-    )
+    within(0, 1, h.last_frame_lost)
+        & taps_held(&taps)
+        & within(0, 27840, wide16(h.rand_scale_q14))
+        & within(0, 16384, wide16(h.prev_ltp_scale_q14))
+        & (0 <= h.conc_energy)
+        & within(0, 31, h.conc_energy_shift)
+        & (!equals(h.fs_khz, shape::rate_of(khz)) | plc_held(khz, h))
 }
 
 fn cng_fits(khz: i32, h: SilkCNGState) -> bool
     ensures { result ≡ cng_fits (rate_of khz) h }
 {
     let lines = h.cng_smth_nlsf_q15;
-    let held = both(
-        lines_fit(khz, &lines),
-        within(0, 1686110208, h.cng_smth_gain_q16),
-    );
-    only_if(equals(h.fs_khz, shape::rate_of(khz)), held)
+    let held = lines_fit(khz, &lines) & within(0, 1686110208, h.cng_smth_gain_q16);
+    !equals(h.fs_khz, shape::rate_of(khz)) | held
 }
 
 // The fields of the decoder's own, as a coming rate leaves them.
 fn decoder_fits(s: SilkDecoderState, khz: i32) -> bool
     ensures { (nb : ℤ) → result ≡ decoder_fits (rate_of khz) (reshaped khz nb s) }
 {
-    let kept = same(khz, s.fs_khz);
+    let kept = khz == s.fs_khz;
     let lines = s.prev_nlsf_q15;
     let lag = chosen(kept, s.lag_prev, 100);
     let kind = chosen(kept, s.prev_signal_type, 0);
     let first = chosen(kept, s.first_frame_after_reset, 1);
-    let mut ok = 0 <= s.loss_cnt;
-    ok = both(ok, only_if(0 < s.loss_cnt, is_lag(khz, lag)));
-    ok = both(ok, within(0, 2, kind));
-    ok = both(ok, within(65536, 1686110208, s.prev_gain_q16));
-    ok = both(ok, within(0, 1, first));
-    both(ok, lines_fit(khz, &lines))
+    (0 <= s.loss_cnt)
+        & (!(0 < s.loss_cnt) | is_lag(khz, lag))
+        & within(0, 2, kind)
+        & within(65536, 1686110208, s.prev_gain_q16)
+        & within(0, 1, first)
+        & lines_fit(khz, &lines)
 }
 
 fn is_squelch(q: i32) -> bool
@@ -289,7 +276,7 @@ fn is_squelch(q: i32) -> bool
 fn settings_fit(v: Settings) -> bool
     ensures { result ≡ settings_fit v }
 {
-    both(is_squelch(v.squelch), is_edition(v.edition))
+    is_squelch(v.squelch) & is_edition(v.edition)
 }
 
 // A loss now makes the count the squelch or more.
@@ -297,7 +284,7 @@ pub fn squelched(s: SilkDecoderState) -> bool
     ensures { result ≡ squelched s }
 {
     let v = s.settings;
-    both(0 < v.squelch, wide(v.squelch) <= sum64(s.loss_cnt, 1))
+    (0 < v.squelch) & (wide(v.squelch) <= sum64(s.loss_cnt, 1))
 }
 
 // Row 1.
@@ -312,107 +299,74 @@ pub fn size_row(s: SilkDecoderState) -> bool
     ensures { result ≡ size_row s }
 {
     let khz = s.fs_khz;
-    let mut ok = shape::is_count(s.nb_subfr);
-    ok = both(
-        ok,
-        equals(s.frame_length, shape::frame_length(khz, s.nb_subfr)),
-    );
-    ok = both(ok, equals(s.subfr_length, Rate::subfr_length(khz)));
-    ok = both(ok, equals(s.ltp_mem_length, Rate::ltp_mem_length(khz)));
-    ok = both(ok, equals(s.lpc_order, Rate::lpc_order(khz)));
+    let ok = shape::is_count(s.nb_subfr)
+        & equals(s.frame_length, shape::frame_length(khz, s.nb_subfr))
+        & equals(s.subfr_length, Rate::subfr_length(khz))
+        & equals(s.ltp_mem_length, Rate::ltp_mem_length(khz))
+        & equals(s.lpc_order, Rate::lpc_order(khz));
     !ok
 }
 
-// Row 3, on the state as a coming rate leaves it.
+// Row 3, on the state as a coming rate leaves it. Where it isn't inlined a caller copies the state.
+#[inline(always)]
 pub fn history_row(s: SilkDecoderState, khz: i32) -> bool
     ensures { (nb : ℤ) → result ≡ history_row (rate_of khz) (reshaped khz nb s) }
 {
     let plc = s.s_plc;
     let cng = s.s_cng;
     let settings = s.settings;
-    !both(
-        both(
-            both(decoder_fits(s, khz), plc_fits(khz, plc)),
-            cng_fits(khz, cng),
-        ),
-        settings_fit(settings),
-    )
+    let ok = decoder_fits(s, khz)
+        & plc_fits(khz, plc)
+        & cng_fits(khz, cng)
+        & settings_fit(settings);
+    !ok
 }
 
-pub fn signal_number(s: Signal) -> i8
-    ensures { result ≡ signal_number s }
-{
-    match s {
-        Signal::NoVoiceActivity => 0,
-        Signal::Unvoiced => 1,
-        Signal::Voiced => 2,
-        Signal::Other(n) => n,
+impl From<Signal> for i8 {
+    ghost from_gives = { λ s n. n ≡ signal_number s };
+
+    fn from(s: Signal) -> i8 {
+        match s {
+            Signal::NoVoiceActivity => 0,
+            Signal::Unvoiced => 1,
+            Signal::Voiced => 2,
+            Signal::Other(n) => n,
+        }
     }
 }
 
-pub fn signal_of(n: i8) -> Signal
-    ensures { result ≡ signal_of n }
-{
-    match n {
-        0 => Signal::NoVoiceActivity,
-        1 => Signal::Unvoiced,
-        2 => Signal::Voiced,
-        _ => Signal::Other(n),
+impl From<i8> for Signal {
+    ghost from_gives = { λ n s. s ≡ signal_of n };
+
+    fn from(n: i8) -> Signal {
+        match n {
+            0 => Signal::NoVoiceActivity,
+            1 => Signal::Unvoiced,
+            2 => Signal::Voiced,
+            _ => Signal::Other(n),
+        }
     }
 }
 
 pub fn is_type(s: Signal) -> bool
     ensures { result ≡ is_type s }
 {
-    match signal_number(s) {
-        0 | 1 | 2 => true,
-        _ => false,
-    }
+    matches!(i8::from(s), 0..=2)
 }
 
 pub fn is_voiced(s: Signal) -> bool
     ensures { result ≡ is_voiced s }
 {
-    match signal_number(s) {
-        2 => true,
-        _ => false,
-    }
-}
-
-fn zeros320() -> [i32; 320]
-    ensures { result ≡ replicate 320 (pos 0) }
-{
-    [0; 320]
-}
-
-fn zeros16() -> [i32; 16]
-    ensures { result ≡ replicate 16 (pos 0) }
-{
-    [0; 16]
-}
-
-fn samples480() -> [i16; 480]
-    ensures { result ≡ replicate 480 (pos 0) }
-{
-    [0; 480]
-}
-
-fn samples16() -> [i16; 16]
-    ensures { result ≡ replicate 16 (pos 0) }
-{
-    [0; 16]
+    matches!(i8::from(s), 2)
 }
 
 fn cng_default() -> SilkCNGState
     ensures { result ≡ cng_default }
 {
-    let exc = zeros320();
-    let nlsf = samples16();
-    let synth = zeros16();
     SilkCNGState {
-        cng_exc_buf_q14: exc,
-        cng_smth_nlsf_q15: nlsf,
-        cng_synth_state: synth,
+        cng_exc_buf_q14: [0; 320],
+        cng_smth_nlsf_q15: [0; 16],
+        cng_synth_state: [0; 16],
         cng_smth_gain_q16: 0,
         rand_seed: 0,
         fs_khz: 0,
@@ -422,26 +376,24 @@ fn cng_default() -> SilkCNGState
 fn plc_default() -> SilkPLCState
     ensures { result ≡ plc_default }
 {
-    let taps = [0i16; 5];
-    let lpc = samples16();
-    let gains = [0i32; 2];
     SilkPLCState {
         pitch_l_q8: 0,
-        ltp_coef_q14: taps,
-        prev_lpc_q12: lpc,
+        ltp_coef_q14: [0; 5],
+        prev_lpc_q12: [0; 16],
         last_frame_lost: 0,
         rand_seed: 0,
         rand_scale_q14: 0,
         conc_energy: 0,
         conc_energy_shift: 0,
         prev_ltp_scale_q14: 0,
-        prev_gain_q16: gains,
+        prev_gain_q16: [0; 2],
         fs_khz: 0,
         nb_subfr: 0,
         subfr_length: 0,
     }
 }
 
+// An `as` in place would need the bound and the law in the caller for each of four sizes.
 fn length_number(n: usize) -> i32
     requires { n < 2147483648 }
     ensures { result ≡ pos n }
@@ -476,10 +428,8 @@ pub fn reshaped(s: SilkDecoderState, khz: i32, nb_subfr: i32) -> SilkDecoderStat
     if khz == s.fs_khz {
         return t;
     }
-    let memory = zeros16();
-    let out_buf = samples480();
-    t.s_lpc_q14_buf = memory;
-    t.out_buf = out_buf;
+    t.s_lpc_q14_buf = [0; 16];
+    t.out_buf = [0; 480];
     t.lag_prev = 100;
     t.first_frame_after_reset = 1;
     t.prev_signal_type = 0;
@@ -494,18 +444,11 @@ pub fn same_shape()
 fn silk_default() -> SilkDecoderState
     ensures { result ≡ silk_default }
 {
-    let exc = zeros320();
-    let lpc = zeros16();
-    let out = samples480();
-    let nlsf = samples16();
-    let cng = cng_default();
-    let plc = plc_default();
-    let settings = default_settings();
     SilkDecoderState {
         prev_gain_q16: 65536,
-        exc_q14: exc,
-        s_lpc_q14_buf: lpc,
-        out_buf: out,
+        exc_q14: [0; 320],
+        s_lpc_q14_buf: [0; 16],
+        out_buf: [0; 480],
         lag_prev: 100,
         fs_khz: 0,
         nb_subfr: 0,
@@ -513,13 +456,13 @@ fn silk_default() -> SilkDecoderState
         subfr_length: 0,
         ltp_mem_length: 0,
         lpc_order: 0,
-        prev_nlsf_q15: nlsf,
+        prev_nlsf_q15: [0; 16],
         first_frame_after_reset: 1,
-        s_cng: cng,
+        s_cng: cng_default(),
         loss_cnt: 0,
         prev_signal_type: 0,
-        s_plc: plc,
-        settings,
+        s_plc: plc_default(),
+        settings: default_settings(),
     }
 }
 
@@ -532,17 +475,14 @@ fn state_from(khz: i32, nb_subfr: i32, settings: Settings) -> SilkDecoderState
     t
 }
 
-fn set_up_refusal(khz: i32, nb_subfr: i32, settings: Settings) -> Refusal
+#[tactic(auto, unfolding(crate::specs::SetUp::set_up_refusal, refusal::specs::First::first_of))]
+fn set_up_refusal(khz: i32, nb_subfr: i32, settings: Settings) -> Result<(), Refusal>
     ensures { result ≡ set_up_refusal khz nb_subfr settings }
 {
-    let edition = refusal::first(
-        !is_edition(settings.edition),
-        Refusal::Edition,
-        Refusal::Nothing,
-    );
-    let squelch = refusal::first(!is_squelch(settings.squelch), Refusal::Squelch, edition);
-    let size = refusal::first(!shape::is_count(nb_subfr), Refusal::Size, squelch);
-    refusal::first(!shape::is_rate(khz), Refusal::Rate, size)
+    refuse_if(!shape::is_rate(khz), Refusal::Rate)?;
+    refuse_if(!shape::is_count(nb_subfr), Refusal::Size)?;
+    refuse_if(!is_squelch(settings.squelch), Refusal::Squelch)?;
+    refuse_if(!is_edition(settings.edition), Refusal::Edition)
 }
 
 pub fn default_settings() -> Settings
@@ -554,20 +494,20 @@ pub fn default_settings() -> Settings
     }
 }
 
-pub fn set_up_with(fs_khz: i32, nb_subfr: i32, settings: Settings) -> StateAnswer
+#[tactic(auto, using(refusal::proofs::Clear::answered_err, refusal::proofs::Clear::answered_ok), unfolding(crate::specs::SetUp::set_up_with))]
+pub fn set_up_with(
+    fs_khz: i32,
+    nb_subfr: i32,
+    settings: Settings,
+) -> Result<SilkDecoderState, Refusal>
     ensures { result ≡ set_up_with fs_khz nb_subfr settings }
 {
-    let refusal = set_up_refusal(fs_khz, nb_subfr, settings);
-    if refusal::number(refusal) != 0 {
-        let state = state_from(0, 0, default_settings());
-        return StateAnswer { refusal, state };
-    }
-    let state = state_from(fs_khz, nb_subfr, settings);
-    StateAnswer { refusal, state }
+    set_up_refusal(fs_khz, nb_subfr, settings)?;
+    Ok(state_from(fs_khz, nb_subfr, settings))
 }
 
 // Set-up with the default settings.
-pub fn set_up(fs_khz: i32, nb_subfr: i32) -> StateAnswer
+pub fn set_up(fs_khz: i32, nb_subfr: i32) -> Result<SilkDecoderState, Refusal>
     ensures { result ≡ set_up fs_khz nb_subfr }
 {
     set_up_with(fs_khz, nb_subfr, default_settings())

@@ -14,9 +14,5 @@ pub const NEWER: i32 = 8251;
 pub fn is_edition(edition: i32) -> bool
     ensures { result ≡ is_edition edition }
 {
-    match edition {
-        OLDER => true,
-        NEWER => true,
-        _ => false,
-    }
+    matches!(edition, OLDER | NEWER)
 }

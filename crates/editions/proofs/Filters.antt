@@ -6,8 +6,7 @@ use lib.IntN.{ℤ, pos}
 use Rattle.word.specs.Int.{eq_ℤ}
 use Rattle.word.proofs.Order.{eq_ℤ_true}
 use Rattle.edition.specs.Edition.{older, newer}
-use Rattle.stability.specs.declared.Stability.{Stability}
-use Rattle.stability.specs.Stability.{stability, inverse_gain}
+use Rattle.stability.specs.Stability.{Stability, stability, inverse_gain}
 use Rattle.editions.proofs.Tests.{alike}
 use Rattle.nlsf.specs.Lines.{lpc_coefficients}
 use Rattle.nlsf.specs.Fit.{Fit, lpc_fit}

@@ -16,11 +16,9 @@ use Rattle.edition.specs.Edition.{older, newer}
 use Rattle.edition.proofs.Editions.{one_of_two}
 use Rattle.macros.specs.Fixed.{smmul, smulww, smulwb, smlaww, lshift_sat32, round_shift, rshift_round, rshift_round64, clz32}
 use Rattle.macros.specs.Quotient.{headroom, shift_up, shift_down, normal, first_inverse, second_inverse, inverse32_varq}
-use Rattle.refusal.specs.Refusals.{refusal_number, if_accepted}
-use Rattle.refusal.specs.declared.Refusal.{Refusal}
-use Rattle.stability.specs.Stability.{a_limit, reflection, rc_mult1, rc_mult2, next_gain, bit_length, mul_q, step_down, stepped, next_coefficients, fits32, all_fit, goes_on, step, and_then, steps, total, stability_by, stability, inverse_gain, answer_number}
-use Rattle.stability.specs.declared.Stability.{Stability}
-use Rattle.stability.specs.declared.Stability.TheVariants.{Stable, Sum, Coefficient, Gain, Overflow}
+use Rattle.std.specs.Prelude.{Ok, Err}
+use Rattle.refusal.specs.Refusals.{Judged, code_of, if_accepted}
+use Rattle.stability.specs.Stability.{Stability, a_limit, reflection, rc_mult1, rc_mult2, next_gain, bit_length, mul_q, step_down, stepped, next_coefficients, fits32, all_fit, goes_on, step, and_then, steps, total, stability_by, stability, inverse_gain, answer_number}
 use Rattle.nlsf.specs.Lines.{lpc_coefficients}
 use Rattle.nlsf.specs.Expand.{next_factor, factor32, bwexpander32}
 use Rattle.nlsf.specs.Fit.{Fit, in_q12, rounded, lpc_fit}
@@ -88,16 +86,13 @@ module _ (e : ℤ) (d : ℕ) (edition : (e ≡ older) ⊎ (e ≡ newer)) (order 
 
 gained : (s : Stability) → (inverse_gain s ≡ pos 0 → ⊥) → answer_number s ≡ 0
 unfolding inverse_gain answer_number
-gained (Stable g) n = refl
-gained Sum n = absurd (n refl)
-gained (Coefficient k) n = absurd (n refl)
-gained (Gain k) n = absurd (n refl)
-gained (Overflow k) n = absurd (n refl)
+gained (Ok g) n = refl
+gained (Err why) n = absurd (n refl)
 
 pub stable_filter : StableFilter
 unfolding nlsf2a_of nlsf2a
 stable_filter out lines d e r =
-    let h = accepted (length out) lines d e (ap refusal_number r) in
-    ap (λ (r : Refusal). answer_number (stability e (take d (if_accepted r (nlsf2a e lines d ++ drop d out) out)))) r
+    let h = accepted (length out) lines d e (ap code_of r) in
+    ap (λ (r : Judged). answer_number (stability e (take d (if_accepted r (nlsf2a e lines d ++ drop d out) out)))) r
     ∙ ap (λ (a : List ℤ). answer_number (stability e a)) (take_at (nlsf2a e lines d) (drop d out) d (length-nlsf2a e lines d))
     ∙ gained _ (rounds-pass e d (one_of_two e h.4) h.0 15 0 (lpc_fit 10 (lpc_coefficients lines d)) refl (fit_length lines d))

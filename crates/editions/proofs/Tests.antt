@@ -8,12 +8,12 @@ use lib.Dec.{ltb, lit<}
 use lib.IntN.{ℤ, pos, nat_abs}
 use lib.ListN.{get_or, length}
 use lib.Signed.{le_z, lt_z}
+use Rattle.std.specs.Prelude.{Ok, Err}
 use Rattle.word.specs.Int.{wrap32}
 use Rattle.edition.specs.Edition.{older, newer}
-use Rattle.stability.specs.Stability.{a_limit, answer_number, reflection, next_gain, next_coefficients, all_fit, goes_on, step, steps, total, stability_by, stability}
+use Rattle.stability.specs.Stability.{Stability, a_limit, answer_number, reflection, next_gain, next_coefficients, all_fit, goes_on, step, steps, total, stability_by, stability}
 use Rattle.editions.specs.Tests.{Fits, EditionsAlike, OlderFits}
-use Rattle.stability.specs.declared.Stability.{Stability}
-use Rattle.stability.specs.declared.Stability.TheVariants.{Stable, Sum, Coefficient, Gain, Overflow}
+use Rattle.stability.specs.declared.Unstable.TheVariants.{Sum, Coefficient, Gain, Overflow}
 use Rattle.stability.proofs.Turns.{then_holds, then_same, either_same}
 
 module _ (limit : ℕ) where
@@ -27,8 +27,8 @@ module _ (limit : ℕ) where
       next = map wrap32 (next_coefficients a (suc k))
 
       go : (x : ℤ) (b : Bool) → (Fits (steps limit newer next x k) → steps limit older next x k ≡ steps limit newer next x k)
-          → Fits (cond b (steps limit newer next x k) (Overflow (suc k)))
-          → steps limit older next x k ≡ cond b (steps limit newer next x k) (Overflow (suc k))
+          → Fits (cond b (steps limit newer next x k) (Err (Overflow (suc k))))
+          → steps limit older next x k ≡ cond b (steps limit newer next x k) (Err (Overflow (suc k)))
       go x true h n = h n
       go x false h n = absurd (n (suc k) refl)
 
@@ -41,10 +41,10 @@ module _ (limit : ℕ) where
   unfolding step answer_number
   step_fits a g k = go (ltb limit (nat_abs a)) (lt_z (next_gain (reflection a) g) (pos 107374))
     where
-      go : (b c : Bool) → Fits (cond b (Coefficient k) (cond c (Gain k) (Stable (next_gain (reflection a) g))))
-      go true c = other (Coefficient k) (lit< tt)
-      go false true = other (Gain k) (lit< tt)
-      go false false = other (Stable _) (lit< tt)
+      go : (b c : Bool) → Fits (cond b (Err (Coefficient k)) (cond c (Err (Gain k)) (Ok (next_gain (reflection a) g))))
+      go true c = other (Err (Coefficient k)) (lit< tt)
+      go false true = other (Err (Gain k)) (lit< tt)
+      go false false = other (Ok _) (lit< tt)
 
   older-steps : (a : List ℤ) (g : ℤ) (k : ℕ) → Fits (steps limit older a g k)
   unfolding steps goes_on
@@ -62,6 +62,6 @@ pub older-fits : OlderFits
 unfolding stability stability_by answer_number
 older-fits a = go (le_z (pos 4096) (total a (length a))) (older-steps a_limit _ (pos (2 ^ 30)) (length a - 1))
   where
-    go : (b : Bool) {s : Stability} → Fits s → Fits (cond b Sum s)
-    go true h = other a_limit Sum (lit< tt)
+    go : (b : Bool) {s : Stability} → Fits s → Fits (cond b (Err Sum) s)
+    go true h = other a_limit (Err Sum) (lit< tt)
     go false h = h

@@ -1,7 +1,6 @@
 -- Document 02, Note 10: the filter from lines under each edition.
-use Rattle.std.specs.Prelude.{ℕ, zero, suc, ◌≡◌, List, ℤ, pos, length, take}
+use Rattle.std.specs.Prelude.{ℕ, zero, suc, ◌≡◌, List, ℤ, pos, length, take, Ok}
 use Rattle.edition.specs.Edition.{older, newer}
-use Rattle.refusal.specs.declared.Refusal.TheVariants.{Nothing}
 use Rattle.stability.specs.Stability.{answer_number, stability, inverse_gain}
 use Rattle.editions.specs.Tests.{Fits}
 use Rattle.nlsf.specs.Lines.{lpc_coefficients}
@@ -23,5 +22,5 @@ AlikeFilter =
 abbrev pub StableFilter : Type 0
 StableFilter =
     (out lines : List ℤ) (d : ℕ) (e : ℤ)
-    → nlsf2a_refusal (length out) lines d e ≡ Nothing
+    → nlsf2a_refusal (length out) lines d e ≡ Ok tt
     → answer_number (stability e (take d (nlsf2a_of out lines d e))) ≡ 0

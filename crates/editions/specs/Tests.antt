@@ -1,13 +1,12 @@
 -- Document 02, Note 10: where the editions' answers differ.
-use Rattle.std.specs.Prelude.{ℕ, ◌≡◌, List, ℤ}
+use Rattle.std.specs.Prelude.{ℕ, ◌≡◌, List, ℤ, Err}
 use Rattle.edition.specs.Edition.{older, newer}
-use Rattle.stability.specs.Stability.{stability}
-use Rattle.stability.specs.declared.Stability.{Stability}
-use Rattle.stability.specs.declared.Stability.TheVariants.{Overflow}
+use Rattle.stability.specs.Stability.{Stability, stability}
+use Rattle.stability.specs.declared.Unstable.TheVariants.{Overflow}
 
 -- the answer is not a step beyond 32 bits
 abbrev pub Fits : Stability → Type 0
-Fits s = (k : ℕ) → s ≡ Overflow k → ⊥
+Fits s = (k : ℕ) → s ≡ Err (Overflow k) → ⊥
 
 -- if no step leaves 32 bits, both editions answer alike
 abbrev pub EditionsAlike : Type 0

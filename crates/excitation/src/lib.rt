@@ -61,10 +61,10 @@ pub fn excite(exc: &mut [i32], pulses: &[i16], offset: i32, seed: i32)
     ensures { exc.new ≡ excitation offset pulses.now seed (length exc.old) }
 {
     let mut g = seed;
-    for i in 0..exc.len() {
+    for (i, e) in exc.iter_mut().enumerate() {
         let p = pulses[i];
         let r = silk_rand(g);
-        exc[i] = excited(offset, r, p);
+        *e = excited(offset, r, p);
         g = add32(r, wide16(p));
     }
 }

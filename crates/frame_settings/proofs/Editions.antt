@@ -10,9 +10,9 @@ use Rattle.decoder.specs.declared.Params.{Params}
 use Rattle.decoder.specs.declared.Frame.{Frame}
 use Rattle.decoder.specs.declared.Frame.TheVariants.{Received, Lost}
 use Rattle.decode_frame.specs.Call.{Call}
-use Rattle.decode_frame.specs.Answer.{frame_refusal, frame_answer}
-use Rattle.frame_settings.specs.Editions.{under, ReceivedAlike}
-use Rattle.frame_settings.proofs.With.{refusal_with, state_left, control_left, output-left}
+use Rattle.decode_frame.specs.Answer.{frame_refusal}
+use Rattle.frame_settings.specs.Editions.{under, answer_under, ReceivedAlike}
+use Rattle.frame_settings.proofs.With.{refusal_with, answer_left, output-left, changed}
 
 is_lost : Frame → Bool
 is_lost (Received q) = false
@@ -32,11 +32,11 @@ module _ (s : SilkDecoderState) (x : Call) (q : Params) (f : x.frame ≡ Receive
   refused = refusal_with (by older s) (by newer s) s x refl
 
 pub received-alike : ReceivedAlike
-unfolding frame_answer
 received-alike s x q f =
-    let r = frame_refusal (under newer s) x in
+    let j = frame_refusal (under newer s) x in
     let k = refused s x q f in
-    let state = state_left s x r (by older s) k (never s x q f) ∙ sym (ap (under older) (state_left s x r (by newer s) refl (never s x q f))) in
-    let control = control_left s x r (by older s) k (never s x q f) ∙ sym (control_left s x r (by newer s) refl (never s x q f)) in
-    let output = output-left s x r (by older s) k (never s x q f) (never s x q f) ∙ sym (output-left s x r (by newer s) refl (never s x q f) (never s x q f)) in
-    (λ i. record { refusal = k i; state = state i; control = control i }, output)
+    let answer =
+    answer_left s x j (by older s) k (never s x q f) ∙ changed (answer_under older) j _ _ refl (λ r. refl)
+    ∙ sym (ap (answer_under older) (answer_left s x j (by newer s) refl (never s x q f))) in
+    let output = output-left s x j (by older s) k (never s x q f) (never s x q f) ∙ sym (output-left s x j (by newer s) refl (never s x q f) (never s x q f)) in
+    (answer, output)

@@ -16,9 +16,9 @@ use Rattle.decoder.specs.declared.Frame.{Frame}
 use Rattle.decoder.specs.declared.Frame.TheVariants.{Lost}
 use Rattle.decode_frame.specs.WholeFrame.{lost, muted, whole_frame}
 use Rattle.decode_frame.specs.Call.{Call, shape_at, state_at}
-use Rattle.decode_frame.specs.Answer.{frame_refusal, frame_outcome, frame_answer, frame_output}
-use Rattle.frame_settings.specs.Squelch.{with_squelch, StateAsBefore, SamplesAsBefore, LostAsBefore, PlaysZeros}
-use Rattle.frame_settings.proofs.With.{refusal_with, state_left, control_left, output-left}
+use Rattle.decode_frame.specs.Answer.{frame_refusal, frame_outcome, frame_output}
+use Rattle.frame_settings.specs.Squelch.{with_squelch, answer_with, StateAsBefore, SamplesAsBefore, LostAsBefore, PlaysZeros}
+use Rattle.frame_settings.proofs.With.{refusal_with, answer_left, output-left, changed}
 
 -- the settings of a state, with another squelch
 abbrev by : ℤ → SilkDecoderState → Settings
@@ -30,13 +30,10 @@ module _ (q : ℤ) (s : SilkDecoderState) (x : Call) (e : is_squelch q ≡ true)
   refused = refusal_with (by q s) (by (pos 0) s) s x (ap (λ (b : Bool). b && is_edition s.settings.edition) e)
 
 pub state_as_before : StateAsBefore
-unfolding frame_answer
 state_as_before q s x e =
-    let r = frame_refusal (with_squelch (pos 0) s) x in
-    let k = refused q s x e in
-    let state = state_left s x r (by q s) k (λ z. refl) ∙ sym (ap (with_squelch q) (state_left s x r (by (pos 0) s) refl (λ z. refl))) in
-    let control = control_left s x r (by q s) k (λ z. refl) ∙ sym (control_left s x r (by (pos 0) s) refl (λ z. refl)) in
-    λ i. record { refusal = k i; state = state i; control = control i }
+    let j = frame_refusal (with_squelch (pos 0) s) x in
+    answer_left s x j (by q s) (refused q s x e) (λ z. refl) ∙ changed (answer_with q) j _ _ refl (λ r. refl)
+    ∙ sym (ap (answer_with q) (answer_left s x j (by (pos 0) s) refl (λ z. refl)))
 
 pub samples_as_before : SamplesAsBefore
 unfolding squelched

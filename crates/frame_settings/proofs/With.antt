@@ -3,11 +3,11 @@ use Prim.Native.Nat.{ℕ}
 use mathlib.Core.Path.{◌≡◌, refl, sym, ap, ◌∙◌}
 use mathlib.Core.Bool.{Bool, true, false, not, cond, ◌&&◌}
 use mathlib.Core.List.{List, [], ◌∷◌, ◌++◌}
-use lib.Dec.{eqb}
 use lib.IntN.{ℤ, pos}
 use lib.ListN.{length, get_or, drop}
 use Rattle.word.specs.Int.{eq_ℤ}
-use Rattle.refusal.specs.Refusals.{refusal_number, if_accepted}
+use Rattle.std.specs.Prelude.{Result, Ok, Err}
+use Rattle.refusal.specs.Refusals.{Judged, if_accepted, answered}
 use Rattle.refusal.specs.declared.Refusal.{Refusal}
 use Rattle.refusal.specs.First.{Row, ◌gives◌, first_of}
 use Rattle.refusal.specs.declared.Refusal.TheVariants.{Rate, Size, History, Line}
@@ -18,6 +18,7 @@ use Rattle.decoder.specs.With.{with_settings}
 use Rattle.decoder.specs.Rows.{rate_row, size_row, history_row, coming_rows}
 use Rattle.decoder.specs.Reshape.{reshaped_by, reshaped}
 use Rattle.decoder.specs.Outcome.{Outcome, Framed}
+use Rattle.decoder.specs.declared.Answer.{Answer}
 use Rattle.decoder.specs.declared.Settings.{Settings}
 use Rattle.decoder.specs.declared.SilkDecoderState.{SilkDecoderState}
 use Rattle.decoder.specs.declared.SilkDecoderControl.{SilkDecoderControl}
@@ -123,8 +124,8 @@ module _ (p : Shape) (s : SilkDecoderState) (c : SilkDecoderControl) (rows : Lis
     samples-with (Received q) k e = ap (λ (o : Outcome). o.samples) (received-with v p s q c rows lines pulses)
     samples-with Lost k e = rw (e refl) (ap (λ (o : Outcome). o.samples) (lost-with v p s c (k refl)))
 
--- ---- a call on a state with settings v, if it is refused or taken by r
-module _ (s : SilkDecoderState) (x : Call) (r : Refusal) (v : Settings) (e : frame_refusal (with_settings s v) x ≡ r) (k : x.frame ≡ Lost → v.edition ≡ s.settings.edition) where
+-- ---- a call on a state with settings v, as it is judged
+module _ (s : SilkDecoderState) (x : Call) (j : Judged) (v : Settings) (e : frame_refusal (with_settings s v) x ≡ j) (k : x.frame ≡ Lost → v.edition ≡ s.settings.edition) where
   abbrev p : Shape
   p = shape_at x
 
@@ -135,21 +136,21 @@ module _ (s : SilkDecoderState) (x : Call) (r : Refusal) (v : Settings) (e : fra
   abbrev new : Outcome
   new = whole_frame p t x.frame x.control x.rows x.lines x.pulses
 
-  either-state : (b : Bool) → cond b (with_settings new.state v) (with_settings s v) ≡ with_settings (cond b new.state s) v
-  either-state true = refl
-  either-state false = refl
-
-  pub state_left : (frame_answer (with_settings s v) x).state ≡ with_settings (if_accepted r new.state s) v
+  pub answer_left : frame_answer (with_settings s v) x ≡ answered j (record { state = with_settings new.state v; control = new.control })
   unfolding frame_answer reshaped reshaped_by
-  state_left =
-      (λ i. if_accepted (e i) (state-with p t x.control x.rows x.lines x.pulses v x.frame k i) (with_settings s v))
-      ∙ either-state (eqb (refusal_number r) 0)
+  answer_left i =
+      answered (e i)
+      (record {
+        state = state-with p t x.control x.rows x.lines x.pulses v x.frame k i;
+        control = control-with p t x.control x.rows x.lines x.pulses v x.frame k i;
+      })
 
-  pub control_left : (frame_answer (with_settings s v) x).control ≡ if_accepted r new.control x.control
-  unfolding frame_answer reshaped reshaped_by
-  control_left i = if_accepted (e i) (control-with p t x.control x.rows x.lines x.pulses v x.frame k i) x.control
-
-  pub output-left : (x.frame ≡ Lost → squelched (with_settings s v) ≡ false) → frame_output (with_settings s v) x ≡ if_accepted r (plain p t x.control x.rows x.lines x.pulses x.frame ++ drop (frame_length p) x.output) x.output
+  pub output-left : (x.frame ≡ Lost → squelched (with_settings s v) ≡ false) → frame_output (with_settings s v) x ≡ if_accepted j (plain p t x.control x.rows x.lines x.pulses x.frame ++ drop (frame_length p) x.output) x.output
   unfolding frame_output squelched reshaped reshaped_by
   output-left l i =
       if_accepted (e i) (samples-with p t x.control x.rows x.lines x.pulses v x.frame k l i ++ drop (frame_length p) x.output) x.output
+
+-- an answer that is changed where it has a value
+pub changed : (f : Result Answer Refusal → Result Answer Refusal) (j : Judged) (a b : Answer) → Ok b ≡ f (Ok a) → ((r : Refusal) → Err r ≡ f (Err r)) → answered j b ≡ f (answered j a)
+changed f (Ok u) a b h g = h
+changed f (Err r) a b h g = g r

@@ -1,5 +1,6 @@
 -- Document 02, Note 10: received frames under both editions.
-use Rattle.std.specs.Prelude.{◌≡◌, ℤ}
+use Rattle.std.specs.Prelude.{Result, Ok, Err, ◌≡◌, ℤ}
+use Rattle.refusal.specs.declared.Refusal.{Refusal}
 use Rattle.edition.specs.Edition.{older, newer}
 use Rattle.decoder.specs.With.{with_settings}
 use Rattle.decoder.specs.declared.Answer.{Answer}
@@ -13,8 +14,9 @@ use Rattle.decode_frame.specs.Answer.{frame_answer, frame_output}
 abbrev pub under : ℤ → SilkDecoderState → SilkDecoderState
 under e s = with_settings s (record { squelch = s.settings.squelch; edition = e })
 
-abbrev pub answer_under : ℤ → Answer → Answer
-answer_under e a = record { refusal = a.refusal; state = under e a.state; control = a.control }
+abbrev pub answer_under : ℤ → Result Answer Refusal → Result Answer Refusal
+answer_under e (Ok a) = Ok (record { state = under e a.state; control = a.control })
+answer_under e (Err r) = Err r
 
 -- a received frame is answered alike, leaves the same description and, but for the edition, the same state, and plays the same samples
 abbrev pub ReceivedAlike : Type 0

@@ -1,6 +1,6 @@
 -- Document 02, Note 3: what a squelch changes of whole-frame calls, and what it leaves.
-use Rattle.std.specs.Prelude.{◌≡◌, true, false, ◌++◌, ℤ, pos, drop, replicate}
-use Rattle.refusal.specs.declared.Refusal.TheVariants.{Nothing}
+use Rattle.std.specs.Prelude.{Result, Ok, Err, ◌≡◌, true, false, ◌++◌, ℤ, pos, drop, replicate}
+use Rattle.refusal.specs.declared.Refusal.{Refusal}
 use Rattle.shape.specs.Shape.{frame_length}
 use Rattle.decoder.specs.Settings.{is_squelch, squelched}
 use Rattle.decoder.specs.With.{with_settings}
@@ -15,8 +15,9 @@ use Rattle.decode_frame.specs.Answer.{frame_refusal, frame_outcome, frame_answer
 abbrev pub with_squelch : ℤ → SilkDecoderState → SilkDecoderState
 with_squelch q s = with_settings s (record { squelch = q; edition = s.settings.edition })
 
-abbrev pub answer_with : ℤ → Answer → Answer
-answer_with q a = record { refusal = a.refusal; state = with_squelch q a.state; control = a.control }
+abbrev pub answer_with : ℤ → Result Answer Refusal → Result Answer Refusal
+answer_with q (Ok a) = Ok (record { state = with_squelch q a.state; control = a.control })
+answer_with q (Err r) = Err r
 
 -- a call on a state with a squelch Q is answered as on the same state with none, and leaves the same description and, but for Q, the same state
 abbrev pub StateAsBefore : Type 0
@@ -38,5 +39,5 @@ LostAsBefore =
 -- one that is squelched and played writes zeros over its 5rn samples, and nothing past them
 abbrev pub PlaysZeros : Type 0
 PlaysZeros =
-    (s : SilkDecoderState) (x : Call) → x.frame ≡ Lost → squelched s ≡ true → frame_refusal s x ≡ Nothing
+    (s : SilkDecoderState) (x : Call) → x.frame ≡ Lost → squelched s ≡ true → frame_refusal s x ≡ Ok tt
     → frame_output s x ≡ replicate (frame_length (shape_at x)) (pos 0) ++ drop (frame_length (shape_at x)) x.output

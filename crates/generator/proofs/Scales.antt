@@ -2,7 +2,7 @@
 use Prim.Native.Nat.{ℕ, zero, suc, ◌+◌, ◌-◌, ◌*◌, ◌/◌, ◌^◌, ◌≤◌, ◌<◌}
 use mathlib.Core.Path.{◌≡◌, refl, ap, ◌∙◌}
 use mathlib.Core.Bool.{Bool, true, false}
-use mathlib.Core.List.{List, [], ◌∷◌, ◌++◌}
+use mathlib.Core.List.{List, [], ◌++◌}
 use native.Mathlib.Omega.{arith}
 use native.Mathlib.Nat.{mul-le-mul, mul-le-mul_right, suc-mul}
 use borrow.Author.Tests.{ltb-true, ltb-false}
@@ -79,16 +79,13 @@ pub picks-none : (a : ℤ) (s : ℕ) (x : ℤ) (k : ℕ) → picks a s x k 0 ≡
 unfolding picks tabulate
 picks-none a s x k = refl
 
-pub picks_four : (a : ℤ) (s : ℕ) (x : ℤ) (k : ℕ) → pick a s x k ∷ pick a s x (k + 1) ∷ pick a s x (k + 2) ∷ pick a s x (k + 3) ∷ [] ≡ picks a s x k 4
-unfolding picks tabulate
-picks_four a s x k =
-    let e : k ≡ k + 0 = omega arith in
-    ap (λ (j : ℕ). pick a s x j ∷ pick a s x (k + 1) ∷ pick a s x (k + 2) ∷ pick a s x (k + 3) ∷ []) e
-
 -- the value that a draw is scaled from
-pub pick_of : (a : ℤ) (s : ℕ) (x : ℤ) (k : ℕ) → scaled a s (unsigned (rand (drawn x k))) ≡ pick a s x k
+pick_of : (a : ℤ) (s : ℕ) (x : ℤ) (k : ℕ) → scaled a s (unsigned (rand (drawn x k))) ≡ pick a s x k
 unfolding pick drawn
 pick_of a s x k = refl
+
+pub pick_by : (a : ℤ) (s : ℕ) (x : ℤ) (k : ℕ) {l y d r v : ℤ} → l ≡ a → y ≡ x → d ≡ drawn y k → r ≡ rand d → v ≡ scaled l s (unsigned r) → v ≡ pick a s x k
+pick_by a s x k el ey ed er ev = rw (ev, el, er, ed, ey) (pick_of a s x k)
 
 pub drawn-next : (x : ℤ) (k i : ℕ) → rand (drawn x (k + i)) ≡ drawn x (k + suc i)
 unfolding drawn

@@ -2,8 +2,8 @@
 // Inner: every function but leap_of, undoing and leaps.
 #![tactic(auto)]
 
-ghost use Rattle.std.specs.Prelude.{◌≡◌, cond, ◌-◌, ◌%◌, ◌<◌, eqb, pos, ◌+ℤ◌, length};
-ghost use Rattle.std.specs.Int.{w8, w16, w32};
+ghost use Rattle.std.specs.Prelude.{◌≡◌, cond, ◌-◌, ◌%◌, eqb, ℤ, pos, ◌+ℤ◌, length, map};
+ghost use Rattle.std.specs.Int.{Width, w8, w16, w32};
 ghost use Rattle.std.proofs.Common.{SFits};
 ghost use Rattle.generator.specs.Draws.{drawn, unsigned};
 ghost use Rattle.generator.specs.Scaled.{scaled, pick, picks};
@@ -35,12 +35,14 @@ pub fn joined(f: Leap, g: Leap) -> Leap
     Leap { factor, term }
 }
 
+#[tactic(auto, unfolding(crate::specs::Leaps::no_draw))]
 fn no_draw() -> Leap
     ensures { result ≡ no_draw }
 {
     Leap { factor: 1, term: 0 }
 }
 
+#[tactic(auto, unfolding(crate::specs::Leaps::one_draw))]
 fn one_draw() -> Leap
     ensures { result ≡ one_draw }
 {
@@ -68,6 +70,7 @@ pub fn leap_of(draws: u64) -> Leap
     let mut all = no_draw();
     let mut power = one_draw();
     let mut left = draws;
+    // The loop halves what is left: it counts no index, and no iterator gives the halves.
     while left > 0 {
         all = joined_if_odd(all, power, left);
         power = joined(power, power);
@@ -77,6 +80,7 @@ pub fn leap_of(draws: u64) -> Leap
 }
 
 // How many draws undo these.
+#[tactic(auto, unfolding(crate::specs::Leaps::undoing))]
 pub fn undoing(draws: u64) -> u64
     ensures { result ≡ undoing draws }
 {
@@ -84,6 +88,7 @@ pub fn undoing(draws: u64) -> u64
 }
 
 // The generator after a number of draws, in one leap.
+#[tactic(auto, using(crate::proofs::Joining::leap_drawn))]
 pub fn drawn(seed: i32, draws: u64) -> i32
     ensures { result ≡ drawn seed draws }
 {
@@ -91,6 +96,7 @@ pub fn drawn(seed: i32, draws: u64) -> i32
 }
 
 // A value of the generator, scaled into count values from low on.
+#[tactic(auto, using(crate::proofs::Scales::share_lt, crate::proofs::Scales::sum_fits), unfolding(crate::specs::Scaled::scaled))]
 fn scaled(low: i32, count: u32, x: i32) -> i64
     ensures { result ≡ scaled low count (unsigned x) }
 {
@@ -98,43 +104,64 @@ fn scaled(low: i32, count: u32, x: i32) -> i64
     wide(low) + (share as i64)
 }
 
+// A signed number of a width, which a draw fits if both ends of its range do.
+pub trait Narrow: Copy + Default {
+    ghost width: { Width };
+
+    ghost value: { Self → ℤ };
+
+    fn narrowed(x: i64) -> Self
+        requires { SFits width x }
+        ensures { value result ≡ x };
+}
+
+impl Narrow for i8 {
+    ghost width = { w8 };
+
+    ghost value = { λ x. x };
+
+    fn narrowed(x: i64) -> i8 {
+        x as i8
+    }
+}
+
+impl Narrow for i16 {
+    ghost width = { w16 };
+
+    ghost value = { λ x. x };
+
+    fn narrowed(x: i64) -> i16 {
+        x as i16
+    }
+}
+
+impl Narrow for i32 {
+    ghost width = { w32 };
+
+    ghost value = { λ x. x };
+
+    fn narrowed(x: i64) -> i32 {
+        x as i32
+    }
+}
+
 // Draw at of a seed, scaled.
-pub fn pick32(seed: i32, at: u64, low: i32, count: u32) -> i32
-    requires { SFits w32 (low +ℤ pos (count - 1)) }
-    ensures { result ≡ pick low count seed at }
+pub fn pick<T: Narrow>(seed: i32, at: u64, low: i32, count: u32) -> T
+    requires { SFits T.width low × SFits T.width (low +ℤ pos (count - 1)) }
+    ensures { T.value result ≡ pick low count seed at }
 {
-    scaled(low, count, silk_rand(drawn(seed, at))) as i32
-}
-
-pub fn pick8(seed: i32, at: u64, low: i32, count: u32) -> i8
-    requires { SFits w8 low × SFits w8 (low +ℤ pos (count - 1)) }
-    ensures { result ≡ pick low count seed at }
-{
-    pick32(seed, at, low, count) as i8
-}
-
-// Four draws from draw at on.
-pub fn picks32(seed: i32, at: u64, low: i32, count: u32) -> [i32; 4]
-    requires { (at < 1024) × SFits w32 (low +ℤ pos (count - 1)) }
-    ensures { result ≡ picks low count seed at 4 }
-{
-    [
-        pick32(seed, at, low, count),
-        pick32(seed, at + 1, low, count),
-        pick32(seed, at + 2, low, count),
-        pick32(seed, at + 3, low, count),
-    ]
+    T::narrowed(scaled(low, count, silk_rand(drawn(seed, at))))
 }
 
 // A slice filled with the draws from draw at on.
-pub fn picks16(seed: i32, at: u64, low: i32, count: u32, to: &mut [i16])
-    requires { SFits w16 low × SFits w16 (low +ℤ pos (count - 1)) }
-    ensures { to.new ≡ picks low count seed at (length to.old) }
+pub fn picks<T: Narrow>(seed: i32, at: u64, low: i32, count: u32, to: &mut [T])
+    requires { SFits T.width low × SFits T.width (low +ℤ pos (count - 1)) }
+    ensures { map T.value to.new ≡ picks low count seed at (length to.old) }
 {
     let mut x = drawn(seed, at);
-    for i in 0..to.len() {
+    for v in to.iter_mut() {
         x = silk_rand(x);
-        to[i] = scaled(low, count, x) as i16;
+        *v = T::narrowed(scaled(low, count, x));
     }
 }
 

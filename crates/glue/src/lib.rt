@@ -10,8 +10,9 @@ ghost use Rattle.sigproc.specs.Energy.{energy_at, energy_shift};
 ghost use Rattle.glue.specs.Glue.{hold_energy, ramped, start_gain, lowered, joined, glue_frames};
 ghost use Rattle.glue.specs.Answer.{glue_answer, glue_output};
 
-use decoder::{SilkDecoderState, SilkPLCState, StateAnswer};
+use decoder::{SilkDecoderState, SilkPLCState};
 use macros::{silk_clz32, silk_div32, silk_max_32, silk_smulwb, silk_sqrt_approx};
+use refusal::Refusal;
 use sigproc::silk_sum_sqr_shift;
 use word::{add32, low16, shl32, shr32, sub32, wide16};
 
@@ -26,8 +27,8 @@ fn ramp(frame: &mut [i16], gain: i32, slope: i32)
     ensures { frame.new ≡ ramped gain slope frame.old }
 {
     let mut g = gain;
-    for i in 0..frame.len() {
-        frame[i] = scaled(g, frame[i]);
+    for x in frame.iter_mut() {
+        *x = scaled(g, *x);
         g = add32(g, slope);
         if g > 65536 {
             return;
@@ -119,13 +120,13 @@ fn glue_frames(s: SilkDecoderState, frame: &mut [i16]) -> SilkDecoderState
 }
 
 // Gluing as a call on the first n samples of a buffer: refused, it changes nothing.
-pub fn silk_plc_glue_frames(s: SilkDecoderState, frame: &mut [i16], n: usize) -> StateAnswer
+pub fn silk_plc_glue_frames(
+    s: SilkDecoderState,
+    frame: &mut [i16],
+    n: usize,
+) -> Result<SilkDecoderState, Refusal>
     ensures { (result ≡ glue_answer s frame.old n) × (frame.new ≡ glue_output s frame.old n) }
 {
-    let refusal = judge::glue(s, frame.len(), n);
-    if refusal::number(refusal) != 0 {
-        return StateAnswer { refusal, state: s };
-    }
-    let state = glue_frames(s, &mut frame[..n]);
-    StateAnswer { refusal, state }
+    judge::glue(s, frame.len(), n)?;
+    Ok(glue_frames(s, &mut frame[..n]))
 }

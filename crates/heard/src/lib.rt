@@ -2,58 +2,46 @@
 // Inner: every function.
 #![tactic(auto)]
 
-ghost use Rattle.std.specs.Prelude.{◌≡◌, ◌+◌, ◌*◌, ◌≤◌, ◌<◌, length, take};
-ghost use Rattle.shape.specs.Shape.{shape, frame_length};
+ghost use Rattle.std.specs.Prelude.{◌≡◌, ◌+◌, ◌*◌, ◌≤◌, length};
 ghost use Rattle.record.specs.Recorded.{lost};
 ghost use Rattle.recording.specs.Frames.{recorded_at};
 ghost use Rattle.playback.specs.Playback.{call_of};
-ghost use Rattle.heard.specs.Loud.{is_beyond, any_beyond, heard_of};
+ghost use Rattle.heard.specs.Loud.{any_beyond, heard_in, heard_of};
 
-use decoder::{SilkDecoderState, either};
-use playback::{lost_sound, sound_at};
+use decoder::SilkDecoderState;
+use playback::{Sound, lost_sound, sound_at};
 use shape::frame_length;
-use word::{abs32, wide16};
 
+// The state stays beside the flag: it is promised of a loud frame too.
 #[derive(Clone, Copy)]
 pub struct Heard {
     pub state: SilkDecoderState,
     pub loud: bool,
 }
 
-fn is_beyond(limit: i32, x: i16) -> bool
-    ensures { result ≡ is_beyond limit x }
-{
-    limit < abs32(wide16(x))
-}
-
+#[tactic(auto, unfolding(crate::specs::Loud::any_beyond, crate::specs::Loud::is_beyond))]
 fn any_beyond(limit: i32, xs: &[i16]) -> bool
     ensures { result ≡ any_beyond limit xs.now }
 {
-    let mut loud = false;
-    for i in 0..xs.len() {
-        loud = either(loud, is_beyond(limit, xs[i]));
-    }
-    loud
+    xs.iter().any(|x| limit < i32::from(x.unsigned_abs()))
 }
 
-// Whether a frame's samples have one, in the largest frame's room.
-fn is_loud(limit: i32, khz: i32, nb_subfr: i32, xq: &[i16]) -> bool
-    requires { 320 ≤ length xq.now }
-    ensures { result ≡ any_beyond limit (take (frame_length (shape khz nb_subfr)) xq.now) }
+// A frame's state, and whether its samples have one.
+#[tactic(auto, using(shape::proofs::Shapes::frame_le))]
+fn heard_in(limit: i32, khz: i32, nb_subfr: i32, t: Sound) -> Heard
+    ensures { result ≡ heard_in limit khz nb_subfr t }
 {
     let n = frame_length(khz, nb_subfr);
-    any_beyond(limit, &xq[..n])
+    let state = t.state;
+    let loud = any_beyond(limit, &t.samples[..n]);
+    Heard { state, loud }
 }
 
 // A lost frame.
 pub fn lost_heard(s: SilkDecoderState, khz: i32, nb_subfr: i32, limit: i32) -> Heard
     ensures { result ≡ heard_of limit s (call_of khz nb_subfr lost) }
 {
-    let t = lost_sound(s, khz, nb_subfr);
-    let state = t.state;
-    let samples = t.samples;
-    let loud = is_loud(limit, khz, nb_subfr, &samples);
-    Heard { state, loud }
+    heard_in(limit, khz, nb_subfr, lost_sound(s, khz, nb_subfr))
 }
 
 // The frame of record i.
@@ -62,15 +50,11 @@ pub fn heard_at(
     khz: i32,
     nb_subfr: i32,
     bytes: &[u8],
-    i: usize,
+    i: u8,
     limit: i32,
 ) -> Heard
-    requires { (i < 256) × (1024 * i + 1024 ≤ length bytes.now) }
+    requires { 1024 * i + 1024 ≤ length bytes.now }
     ensures { result ≡ heard_of limit s (call_of khz nb_subfr (recorded_at bytes.now i)) }
 {
-    let t = sound_at(s, khz, nb_subfr, bytes, i);
-    let state = t.state;
-    let samples = t.samples;
-    let loud = is_loud(limit, khz, nb_subfr, &samples);
-    Heard { state, loud }
+    heard_in(limit, khz, nb_subfr, sound_at(s, khz, nb_subfr, bytes, i))
 }

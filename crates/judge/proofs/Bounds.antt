@@ -12,9 +12,9 @@ use mir.Syntax.{w16}
 use mir.Val.{SFits}
 use Rattle.word.specs.Int.{eq_ℤ}
 use Rattle.refusal.specs.First.{Row, first_of}
-use Rattle.refusal.specs.Refusals.{refusal_number}
-use Rattle.refusal.specs.declared.Refusal.TheVariants.{Nothing}
-use Rattle.refusal.proofs.Clear.{Clear, real, clear, first-append}
+use Rattle.std.specs.Prelude.{Ok, Err}
+use Rattle.refusal.specs.Refusals.{Judged, code_of, if_accepted}
+use Rattle.refusal.proofs.Clear.{Clear, refuses, clear, first-append}
 use Rattle.shape.specs.Shape.{Shape, shape, rate_of, frame_length}
 use Rattle.decoder.specs.Signals.{signal_number, is_type, is_voiced}
 use Rattle.decoder.specs.State.{shape_of}
@@ -115,8 +115,12 @@ pub record CngFits (s : SilkDecoderState) (c : SilkDecoderControl) (lent n : ℕ
   pub length_fit : LengthFits lent n
 
 -- of two runs of rows: the first are clear, and the rest is met
-met : (xs ys : List Row) → real xs ≡ true → refusal_number (first_of (xs ++ ys)) ≡ 0 → Clear xs × (refusal_number (first_of ys) ≡ 0)
-met xs ys k e = clear xs (first_of ys) k (sym (ap refusal_number (first-append xs ys Nothing)) ∙ e)
+met : (xs ys : List Row) → code_of (first_of (xs ++ ys)) ≡ 0 → Clear xs × (code_of (first_of ys) ≡ 0)
+met xs ys e = go (first_of xs) refl (ap code_of (sym (first-append xs ys)) ∙ e)
+  where
+    go : (j : Judged) → first_of xs ≡ j → code_of (if_accepted j (first_of ys) j) ≡ 0 → Clear xs × (code_of (first_of ys) ≡ 0)
+    go (Ok u) h z = (clear xs (ap code_of h), z)
+    go (Err r) h z = absurd (refuses r z)
 
 -- a row that is met only under a condition, where the condition holds
 only-off : (a b : Bool) → a ≡ true → (a && b) ≡ false → b ≡ false
@@ -125,14 +129,14 @@ only-off false b h e = absurd (false≢true h)
 
 -- a whole frame: on the state as the coming shape leaves it
 module _ (khz nb : ℤ) (s : SilkDecoderState) where
-  pub received-fits : (q : Params) (c : SilkDecoderControl) (lines : List ℤ) (pulses output : ℕ) → refusal_number (first_of (received_rows khz nb s q c lines pulses output)) ≡ 0
+  pub received-fits : (q : Params) (c : SilkDecoderControl) (lines : List ℤ) (pulses output : ℕ) → code_of (first_of (received_rows khz nb s q c lines pulses output)) ≡ 0
       → ReceivedFits (reshaped khz nb s) q c lines pulses output
   unfolding reshaped reshaped_by
   received-fits q c lines pulses output e =
       let p = shape khz nb in
-      let f = met (coming_rows khz nb s) _ refl e in
-      let g = met (param_rows p q c) _ refl f.1 in
-      let h = (clear _ Nothing refl g.1).0 in
+      let f = met (coming_rows khz nb s) _ e in
+      let g = met (param_rows p q c) _ f.1 in
+      let h = (clear _ g.1) in
       record {
         core =
             record {
@@ -144,27 +148,27 @@ module _ (khz nb : ℤ) (s : SilkDecoderState) where
         lines_fit = not-false _ h.0;
       }
 
-  pub lost-fits : (output : ℕ) → refusal_number (first_of (lost_rows khz nb s output)) ≡ 0 → LostFits (reshaped khz nb s) output
+  pub lost-fits : (output : ℕ) → code_of (first_of (lost_rows khz nb s output)) ≡ 0 → LostFits (reshaped khz nb s) output
   unfolding reshaped reshaped_by
   lost-fits output e =
-      let f = met (coming_rows khz nb s) _ refl e in
-      let h = (clear _ Nothing refl f.1).0 in
+      let f = met (coming_rows khz nb s) _ e in
+      let h = (clear _ f.1) in
       record {
         accepted = coming_accepted khz nb s f.0;
         not_full = h.0;
         output_lent = ltb-false output (frame_length (shape khz nb)) h.1.0;
       }
 
-  pub frame-accepted : (f : Frame) (c : SilkDecoderControl) (lines : List ℤ) (pulses output : ℕ) → refusal_number (first_of (frame_rows khz nb s f c lines pulses output)) ≡ 0
+  pub frame-accepted : (f : Frame) (c : SilkDecoderControl) (lines : List ℤ) (pulses output : ℕ) → code_of (first_of (frame_rows khz nb s f c lines pulses output)) ≡ 0
       → Accepted (rate_of (reshaped khz nb s).fs_khz) (reshaped khz nb s)
   frame-accepted (Received q) c lines pulses output e = (received-fits q c lines pulses output e).core.accepted
   frame-accepted Lost c lines pulses output e = (lost-fits output e).accepted
 
-pub core-fits : (s : SilkDecoderState) (q : Params) (c : SilkDecoderControl) (pulses output : ℕ) → refusal_number (first_of (core_rows s q c pulses output)) ≡ 0 → CoreFits s q c pulses output
+pub core-fits : (s : SilkDecoderState) (q : Params) (c : SilkDecoderControl) (pulses output : ℕ) → code_of (first_of (core_rows s q c pulses output)) ≡ 0 → CoreFits s q c pulses output
 core-fits s q c pulses output e =
-    let f = met (state_rows s) _ refl e in
-    let g = met (param_rows (shape_of s) q c) _ refl f.1 in
-    let h = (clear _ Nothing refl g.1).0 in
+    let f = met (state_rows s) _ e in
+    let g = met (param_rows (shape_of s) q c) _ f.1 in
+    let h = (clear _ g.1) in
     record {
       accepted = state_clear s f.0;
       params = params_fit (shape_of s) q c g.0;
@@ -172,30 +176,30 @@ core-fits s q c pulses output e =
       output_lent = ltb-false output (frame_length (shape_of s)) h.1.0;
     }
 
-pub plc_received-fits : (s : SilkDecoderState) (q : Params) (c : SilkDecoderControl) → refusal_number (first_of (plc_received_rows s q c)) ≡ 0 → PlcReceivedFits s q c
+pub plc_received-fits : (s : SilkDecoderState) (q : Params) (c : SilkDecoderControl) → code_of (first_of (plc_received_rows s q c)) ≡ 0 → PlcReceivedFits s q c
 plc_received-fits s q c e =
-    let f = met (state_rows s) _ refl e in
-    record { accepted = state_clear s f.0; params = params_fit (shape_of s) q c (clear _ Nothing refl f.1).0 }
+    let f = met (state_rows s) _ e in
+    record { accepted = state_clear s f.0; params = params_fit (shape_of s) q c (clear _ f.1) }
 
-pub plc_lost-fits : (s : SilkDecoderState) (output : ℕ) → refusal_number (first_of (plc_lost_rows s output)) ≡ 0 → LostFits s output
+pub plc_lost-fits : (s : SilkDecoderState) (output : ℕ) → code_of (first_of (plc_lost_rows s output)) ≡ 0 → LostFits s output
 plc_lost-fits s output e =
-    let f = met (state_rows s) _ refl e in
-    let h = (clear _ Nothing refl f.1).0 in
+    let f = met (state_rows s) _ e in
+    let h = (clear _ f.1) in
     record {
       accepted = state_clear s f.0;
       not_full = h.0;
       output_lent = ltb-false output (frame_length (shape_of s)) h.1.0;
     }
 
-pub glue_fits : (s : SilkDecoderState) (lent n : ℕ) → refusal_number (first_of (glue_rows s lent n)) ≡ 0 → GlueFits s lent n
+pub glue_fits : (s : SilkDecoderState) (lent n : ℕ) → code_of (first_of (glue_rows s lent n)) ≡ 0 → GlueFits s lent n
 glue_fits s lent n e =
-    let f = met (state_rows s) _ refl e in
-    record { accepted = state_clear s f.0; length_fit = length-fits lent n (clear _ Nothing refl f.1).0.0 }
+    let f = met (state_rows s) _ e in
+    record { accepted = state_clear s f.0; length_fit = length-fits lent n (clear _ f.1).0 }
 
-pub cng_fits_lem : (s : SilkDecoderState) (c : SilkDecoderControl) (lent n : ℕ) → refusal_number (first_of (cng_rows s c lent n)) ≡ 0 → CngFits s c lent n
+pub cng_fits_lem : (s : SilkDecoderState) (c : SilkDecoderControl) (lent n : ℕ) → code_of (first_of (cng_rows s c lent n)) ≡ 0 → CngFits s c lent n
 cng_fits_lem s c lent n e =
-    let f = met (state_rows s) _ refl e in
-    let h = (clear _ Nothing refl f.1).0 in
+    let f = met (state_rows s) _ e in
+    let h = (clear _ f.1) in
     record {
       accepted = state_clear s f.0;
       gains = λ z. gains_fit (shape_of s) c (only-off (eq_ℤ s.loss_cnt (pos 0)) (gain_row (shape_of s).subframes c) z h.0);

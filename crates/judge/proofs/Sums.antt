@@ -24,7 +24,7 @@ more r s x e = ap (λ (z : ℤ). wrap32 (z +ℤ x)) e ∙ wrap_add_l w32 s x
 
 -- five numbers of 16 bits
 module _ (a b c d e : ℤ) (ha : SFits w16 a) (hb : SFits w16 b) (hc : SFits w16 c) (hd : SFits w16 d) (he : SFits w16 e) where
-  five : nat_abs (a +ℤ b +ℤ c +ℤ d +ℤ e) ≤ 163840
+  pub five : nat_abs (a +ℤ b +ℤ c +ℤ d +ℤ e) ≤ 163840
   five =
       omega (
         arith,

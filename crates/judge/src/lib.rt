@@ -2,11 +2,11 @@
 // Inner: every function.
 #![tactic(auto)]
 
-ghost use Rattle.std.specs.Prelude.{◌≡◌, not, ◌<◌, ◌≤◌, pos, get_or};
+ghost use Rattle.std.specs.Prelude.{◌≡◌, not, ◌+◌, ◌*◌, ◌<◌, ◌≤◌, pos, nat_abs, get_or, length};
 ghost use Rattle.std.specs.Int.{w16};
 ghost use Rattle.std.proofs.Common.{SFits};
 ghost use Rattle.word.specs.Int.{eq_ℤ};
-ghost use Rattle.refusal.specs.First.{first_or, first_of};
+ghost use Rattle.refusal.specs.First.{first_of};
 ghost use Rattle.shape.specs.Shape.{shape, rate_of, count_of};
 ghost use Rattle.decoder.specs.Ranges.{within, lines_fit};
 ghost use Rattle.decoder.specs.Rows.{state_rows, coming_rows};
@@ -14,24 +14,24 @@ ghost use Rattle.judge.specs.Taps.{tap_sum, taps_fit};
 ghost use Rattle.judge.specs.Rows.{signal_row, gain_row, lag_row, taps_row, room_row, length_row, param_rows, description_rows, room_rows, loss_rows, received_rows, lost_rows, frame_rows, core_rows, plc_received_rows, plc_lost_rows, glue_rows, cng_rows};
 
 use decoder::{
-    Frame, Params, SilkDecoderControl, SilkDecoderState, all_within, both, equals, history_row,
-    is_type, is_voiced, lines_fit, only_if, rate_row, size_row, within,
+    Frame, Params, SilkDecoderControl, SilkDecoderState, all_within, equals, history_row, is_type,
+    is_voiced, lines_fit, rate_row, size_row, within,
 };
-use refusal::{Refusal, first};
+use refusal::{Refusal, refuse_if};
 use shape::{Rate, count_of, frame_length, is_count, is_rate};
 use word::{add32, wide16};
 
-fn tap(taps: &[i16; 20], i: usize) -> i32
-    requires { i < 20 }
+fn tap(taps: &[i16], i: usize) -> i32
+    requires { i < length taps.now }
     ensures { (result ≡ get_or taps.now i (pos 0)) × SFits w16 result }
 {
     wide16(taps[i])
 }
 
 // The five taps of subframe k, added up.
-pub fn tap_sum(taps: &[i16; 20], k: usize) -> i32
-    requires { k < 4 }
-    ensures { result ≡ tap_sum taps.now k }
+pub fn tap_sum(taps: &[i16], k: usize) -> i32
+    requires { 5 * k + 5 ≤ length taps.now }
+    ensures { (result ≡ tap_sum taps.now k) × (nat_abs result ≤ 163840) }
 {
     let at = 5 * k;
     let two = add32(tap(taps, at), tap(taps, at + 1));
@@ -48,28 +48,24 @@ fn run_full_row(loss_cnt: i32) -> bool
 fn is_offset(n: i8) -> bool
     ensures { result ≡ within (pos 0) (pos 1) n }
 {
-    match n {
-        0 | 1 => true,
-        _ => false,
-    }
+    matches!(n, 0 | 1)
 }
 
 // 0 to 3 interpolate the lines, 4 does not.
 fn is_interpolation(n: i8) -> bool
     ensures { result ≡ within (pos 0) (pos 4) n }
 {
-    match n {
-        0..=3 | 4 => true,
-        _ => false,
-    }
+    matches!(n, 0..=4)
 }
 
 fn signal_row(q: Params) -> bool
     ensures { result ≡ signal_row q }
 {
     let signal = q.signal;
-    let ok = both(is_type(signal), is_offset(q.quant_offset_type));
-    !both(ok, is_interpolation(q.nlsf_interp_coef_q2))
+    let ok = is_type(signal)
+        & is_offset(q.quant_offset_type)
+        & is_interpolation(q.nlsf_interp_coef_q2);
+    !ok
 }
 
 fn gain_row(nb_subfr: i32, c: SilkDecoderControl) -> bool
@@ -87,7 +83,7 @@ fn lag_row(fs_khz: i32, nb_subfr: i32, q: Params, c: SilkDecoderControl) -> bool
     let low = Rate::lag_min(fs_khz);
     let high = Rate::lag_max(fs_khz);
     let ok = all_within(low, high, &lags, count_of(nb_subfr));
-    !only_if(is_voiced(signal), ok)
+    is_voiced(signal) & !ok
 }
 
 // The sums of the first n subframes' taps fit 16 bits.
@@ -97,7 +93,7 @@ fn taps_fit(taps: &[i16; 20], n: usize) -> bool
 {
     let mut ok = true;
     for k in 0..n {
-        ok = both(ok, within(-32768, 32767, tap_sum(taps, k)));
+        ok &= within(-32768, 32767, tap_sum(taps, k));
     }
     ok
 }
@@ -107,8 +103,8 @@ fn taps_row(nb_subfr: i32, q: Params, c: SilkDecoderControl) -> bool
 {
     let signal = q.signal;
     let taps = c.ltp_coef_q14;
-    let ok = only_if(is_voiced(signal), taps_fit(&taps, count_of(nb_subfr)));
-    !both(within(0, 16384, c.ltp_scale_q14), ok)
+    let ok = !is_voiced(signal) | taps_fit(&taps, count_of(nb_subfr));
+    !(within(0, 16384, c.ltp_scale_q14) & ok)
 }
 
 fn line_row(fs_khz: i32, lines: [i16; 16]) -> bool
@@ -129,94 +125,66 @@ fn length_row(lent: usize, n: usize) -> bool
     (n == 0) | (n > 320) | (n > lent)
 }
 
-// Rows 1 to 3 with a coming shape, and where none applies, what the rows after them give.
-fn coming_rows(s: SilkDecoderState, khz: i32, nb_subfr: i32, other: Refusal) -> Refusal
-    ensures { result ≡ first_or (coming_rows khz nb_subfr s) other }
+// Rows 1 to 3 with a coming shape. Where it isn't inlined it copies the state.
+#[inline(always)]
+fn coming_rows(s: SilkDecoderState, khz: i32, nb_subfr: i32) -> Result<(), Refusal>
+    ensures { result ≡ first_of (coming_rows khz nb_subfr s) }
 {
-    let held_rate = rate_row(s);
-    let rate = !is_rate(khz);
-    let held_size = size_row(s);
-    let size = !is_count(nb_subfr);
-    let history = history_row(s, khz);
-    let from_3 = first(history, Refusal::History, other);
-    let coming_2 = first(size, Refusal::Size, from_3);
-    let from_2 = first(held_size, Refusal::Size, coming_2);
-    let coming_1 = first(rate, Refusal::Rate, from_2);
-    first(held_rate, Refusal::Rate, coming_1)
+    refuse_if(rate_row(s), Refusal::Rate)?;
+    refuse_if(!is_rate(khz), Refusal::Rate)?;
+    refuse_if(size_row(s), Refusal::Size)?;
+    refuse_if(!is_count(nb_subfr), Refusal::Size)?;
+    refuse_if(history_row(s, khz), Refusal::History)
 }
 
 // Rows 1 to 3 at the shape that a state holds.
-fn state_rows(s: SilkDecoderState, other: Refusal) -> Refusal
-    ensures { result ≡ first_or (state_rows s) other }
+fn state_rows(s: SilkDecoderState) -> Result<(), Refusal>
+    ensures { result ≡ first_of (state_rows s) }
 {
-    coming_rows(s, s.fs_khz, s.nb_subfr, other)
+    coming_rows(s, s.fs_khz, s.nb_subfr)
 }
 
-// Rows 5 to 8, and what is after them.
-fn param_rows(
-    fs_khz: i32,
-    nb_subfr: i32,
-    q: Params,
-    c: SilkDecoderControl,
-    other: Refusal,
-) -> Refusal
-    ensures { result ≡ first_or (param_rows (shape fs_khz nb_subfr) q c) other }
+// Rows 5 to 8.
+#[tactic(auto, unfolding(refusal::specs::First::first_of))]
+fn param_rows(fs_khz: i32, nb_subfr: i32, q: Params, c: SilkDecoderControl) -> Result<(), Refusal>
+    ensures { result ≡ first_of (param_rows (shape fs_khz nb_subfr) q c) }
 {
-    let signal = signal_row(q);
-    let gain = gain_row(nb_subfr, c);
-    let lag = lag_row(fs_khz, nb_subfr, q, c);
-    let taps = taps_row(nb_subfr, q, c);
-    let from_8 = first(taps, Refusal::Taps, other);
-    let from_7 = first(lag, Refusal::Lag, from_8);
-    let from_6 = first(gain, Refusal::Gain, from_7);
-    first(signal, Refusal::Signal, from_6)
+    refuse_if(signal_row(q), Refusal::Signal)?;
+    refuse_if(gain_row(nb_subfr, c), Refusal::Gain)?;
+    refuse_if(lag_row(fs_khz, nb_subfr, q, c), Refusal::Lag)?;
+    refuse_if(taps_row(nb_subfr, q, c), Refusal::Taps)
 }
 
-// Rows 5 to 9, and what is after them.
-fn description_rows(
-    fs_khz: i32,
-    nb_subfr: i32,
-    q: Params,
-    c: SilkDecoderControl,
-    lines: [i16; 16],
-    other: Refusal,
-) -> Refusal
-    ensures { result ≡ first_or (description_rows (shape fs_khz nb_subfr) q c lines) other }
-{
-    let line = first(line_row(fs_khz, lines), Refusal::Line, other);
-    param_rows(fs_khz, nb_subfr, q, c, line)
-}
-
-// A received frame's description alone, at a shape.
+// Rows 5 to 9: a received frame's description alone, at a shape.
+#[tactic(auto, using(refusal::proofs::Clear::append_err, refusal::proofs::Clear::append_ok), unfolding(refusal::specs::First::first_of))]
 pub fn description(
     fs_khz: i32,
     nb_subfr: i32,
     q: Params,
     c: SilkDecoderControl,
     lines: [i16; 16],
-) -> Refusal
+) -> Result<(), Refusal>
     ensures { result ≡ first_of (description_rows (shape fs_khz nb_subfr) q c lines) }
 {
-    description_rows(fs_khz, nb_subfr, q, c, lines, Refusal::Nothing)
+    param_rows(fs_khz, nb_subfr, q, c)?;
+    refuse_if(line_row(fs_khz, lines), Refusal::Line)
 }
 
 // Rows 10 and 11.
-fn room_rows(fs_khz: i32, nb_subfr: i32, pulses: usize, output: usize) -> Refusal
+#[tactic(auto, unfolding(refusal::specs::First::first_of))]
+fn room_rows(fs_khz: i32, nb_subfr: i32, pulses: usize, output: usize) -> Result<(), Refusal>
     ensures { result ≡ first_of (room_rows (shape fs_khz nb_subfr) pulses output) }
 {
-    let few_pulses = room_row(fs_khz, nb_subfr, pulses);
-    let short_output = room_row(fs_khz, nb_subfr, output);
-    let speaker = first(short_output, Refusal::Speaker, Refusal::Nothing);
-    first(few_pulses, Refusal::Pulses, speaker)
+    refuse_if(room_row(fs_khz, nb_subfr, pulses), Refusal::Pulses)?;
+    refuse_if(room_row(fs_khz, nb_subfr, output), Refusal::Speaker)
 }
 
 // Rows 4 and 11.
-fn loss_rows(s: SilkDecoderState, khz: i32, nb_subfr: i32, output: usize) -> Refusal
+fn loss_rows(s: SilkDecoderState, khz: i32, nb_subfr: i32, output: usize) -> Result<(), Refusal>
     ensures { result ≡ first_of (loss_rows (shape khz nb_subfr) s output) }
 {
-    let few_samples = room_row(khz, nb_subfr, output);
-    let from_11 = first(few_samples, Refusal::Speaker, Refusal::Nothing);
-    first(run_full_row(s.loss_cnt), Refusal::RunFull, from_11)
+    refuse_if(run_full_row(s.loss_cnt), Refusal::RunFull)?;
+    refuse_if(room_row(khz, nb_subfr, output), Refusal::Speaker)
 }
 
 // A whole received frame with its coming shape.
@@ -229,23 +197,20 @@ pub fn received(
     lines: [i16; 16],
     pulses: usize,
     output: usize,
-) -> Refusal
+) -> Result<(), Refusal>
     ensures { result ≡ first_of (received_rows khz nb_subfr s q c lines pulses output) }
 {
-    let rooms = room_rows(khz, nb_subfr, pulses, output);
-    coming_rows(
-        s,
-        khz,
-        nb_subfr,
-        description_rows(khz, nb_subfr, q, c, lines, rooms),
-    )
+    coming_rows(s, khz, nb_subfr)?;
+    description(khz, nb_subfr, q, c, lines)?;
+    room_rows(khz, nb_subfr, pulses, output)
 }
 
 // A whole lost frame with its coming shape.
-pub fn lost(s: SilkDecoderState, khz: i32, nb_subfr: i32, output: usize) -> Refusal
+pub fn lost(s: SilkDecoderState, khz: i32, nb_subfr: i32, output: usize) -> Result<(), Refusal>
     ensures { result ≡ first_of (lost_rows khz nb_subfr s output) }
 {
-    coming_rows(s, khz, nb_subfr, loss_rows(s, khz, nb_subfr, output))
+    coming_rows(s, khz, nb_subfr)?;
+    loss_rows(s, khz, nb_subfr, output)
 }
 
 pub fn frame(
@@ -257,7 +222,7 @@ pub fn frame(
     lines: [i16; 16],
     pulses: usize,
     output: usize,
-) -> Refusal
+) -> Result<(), Refusal>
     ensures { result ≡ first_of (frame_rows khz nb_subfr s f c lines pulses output) }
 {
     let Frame::Received(q) = f else {
@@ -272,43 +237,42 @@ pub fn core(
     c: SilkDecoderControl,
     pulses: usize,
     output: usize,
-) -> Refusal
+) -> Result<(), Refusal>
     ensures { result ≡ first_of (core_rows s q c pulses output) }
 {
-    let khz = s.fs_khz;
-    let n = s.nb_subfr;
-    state_rows(
-        s,
-        param_rows(khz, n, q, c, room_rows(khz, n, pulses, output)),
-    )
+    state_rows(s)?;
+    param_rows(s.fs_khz, s.nb_subfr, q, c)?;
+    room_rows(s.fs_khz, s.nb_subfr, pulses, output)
 }
 
-pub fn plc_received(s: SilkDecoderState, q: Params, c: SilkDecoderControl) -> Refusal
+pub fn plc_received(s: SilkDecoderState, q: Params, c: SilkDecoderControl) -> Result<(), Refusal>
     ensures { result ≡ first_of (plc_received_rows s q c) }
 {
-    state_rows(s, param_rows(s.fs_khz, s.nb_subfr, q, c, Refusal::Nothing))
+    state_rows(s)?;
+    param_rows(s.fs_khz, s.nb_subfr, q, c)
 }
 
-pub fn plc_lost(s: SilkDecoderState, output: usize) -> Refusal
+pub fn plc_lost(s: SilkDecoderState, output: usize) -> Result<(), Refusal>
     ensures { result ≡ first_of (plc_lost_rows s output) }
 {
-    state_rows(s, loss_rows(s, s.fs_khz, s.nb_subfr, output))
+    state_rows(s)?;
+    loss_rows(s, s.fs_khz, s.nb_subfr, output)
 }
 
-pub fn glue(s: SilkDecoderState, lent: usize, n: usize) -> Refusal
+pub fn glue(s: SilkDecoderState, lent: usize, n: usize) -> Result<(), Refusal>
     ensures { result ≡ first_of (glue_rows s lent n) }
 {
-    state_rows(
-        s,
-        first(length_row(lent, n), Refusal::Length, Refusal::Nothing),
-    )
+    state_rows(s)?;
+    refuse_if(length_row(lent, n), Refusal::Length)
 }
 
-pub fn cng(s: SilkDecoderState, c: SilkDecoderControl, lent: usize, n: usize) -> Refusal
+pub fn cng(s: SilkDecoderState, c: SilkDecoderControl, lent: usize, n: usize) -> Result<(), Refusal>
     ensures { result ≡ first_of (cng_rows s c lent n) }
 {
-    let last = first(length_row(lent, n), Refusal::Length, Refusal::Nothing);
-    let heard = equals(s.loss_cnt, 0);
-    let gain = gain_row(s.nb_subfr, c);
-    state_rows(s, first(both(heard, gain), Refusal::Gain, last))
+    state_rows(s)?;
+    refuse_if(
+        equals(s.loss_cnt, 0) & gain_row(s.nb_subfr, c),
+        Refusal::Gain,
+    )?;
+    refuse_if(length_row(lent, n), Refusal::Length)
 }

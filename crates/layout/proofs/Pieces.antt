@@ -1,24 +1,18 @@
 -- Lists stored one after the other.
-use Prim.Native.Nat.{ℕ, ◌+◌, ◌-◌, ◌≤◌, ◌<◌}
-use mathlib.Core.Path.{◌≡◌, sym, ap, ◌∙◌}
+use Prim.Native.Nat.{ℕ, ◌+◌, ◌≤◌, ◌<◌}
+use mathlib.Core.Path.{◌≡◌, ap, ◌∙◌}
 use mathlib.Core.List.{List, ◌++◌, append_assoc}
 use native.Mathlib.Omega.{arith}
-use native.Mathlib.Nat.{zero-add, add-sub_cancel_left}
+use native.Mathlib.Nat.{zero-add}
 use lib.ListN.{length, take, drop, length-append, length-drop, get_or-append}
 use lib.Seq.{take-append_seam, drop_at, drop-append-add, drop-drop, get_or-take, length-take-le}
 use lib.IntN.{ℤ, pos}
 use Rattle.sigproc.specs.Place.{put_at}
 use Rattle.layout.specs.Layout.{part, one}
-use Rattle.sigproc.proofs.Places.{put_whole}
 
 -- a part of n numbers has n
 pub length_part : (xs : List ℤ) (at n : ℕ) → at + n ≤ length xs → length (take n (drop at xs)) ≡ n
 length_part xs at n h = length-take-le n (drop at xs) (simp length-drop (omega arith))
-
--- a part copied out
-pub read-part : (d xs : List ℤ) (at n : ℕ) → length d ≡ n → at + n ≤ length xs → put_at d 0 (take (at + n - at) (drop at xs)) ≡ take n (drop at xs)
-read-part d xs at n e h =
-    rw (add-sub_cancel_left at n) (put_whole d (take n (drop at xs)) (e ∙ sym (length_part xs at n h)))
 
 -- a list stored from place `at` to m: what is read before it, there, and behind it
 module _ (d s : List ℤ) (at m : ℕ) (e : at + length s ≡ m) (h : m ≤ length d) where

@@ -7,8 +7,8 @@ use Rattle.decoder.specs.declared.SilkPLCState.{SilkPLCState}
 use Rattle.decoder.specs.declared.Settings.{Settings}
 use Rattle.decoder.specs.declared.SilkDecoderState.{SilkDecoderState}
 
--- n numbers from place `at` on
-abbrev pub part : List ℤ → ℕ → ℕ → List ℤ
+-- n elements from place `at` on
+abbrev pub part : {A : Type 0} → List A → ℕ → ℕ → List A
 part xs at n = take n (drop at xs)
 
 abbrev pub one : List ℤ → ℕ → ℤ

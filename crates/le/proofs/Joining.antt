@@ -38,11 +38,6 @@ joined_at (b ∷ bs) (n ∷ ns) (suc i) q s h =
     ∙ drop-append-add b (joined bs ++ q) (total (take i ns))
     ∙ joined_at bs ns i q s.1 (le_of_suc-le-suc h)
 
-pub joined_snoc : (bs : List (List ℕ)) (b : List ℕ) → joined (bs ++ b ∷ []) ≡ joined bs ++ b
-unfolding joined
-joined_snoc [] b = append-nil b
-joined_snoc (a ∷ bs) b = ap (λ (c : List ℕ). a ++ c) (joined_snoc bs b) ∙ sym (append_assoc a (joined bs) b)
-
 -- bytes taken apart, from place `at` on
 abbrev pub cut : ℕ → List ℕ → List ℕ → List (List ℕ)
 cut at [] b = []
@@ -55,7 +50,18 @@ joined-cut at (n ∷ ns) b =
     ap (λ (c : List ℕ). take n (drop at b) ++ c) (joined-cut (at + n) ns b ∙ ap (take (total ns)) (sym (drop-drop n at b)))
     ∙ sym (take-add n (total ns) (drop at b))
 
--- one list more is stored
-pub with-next : (d : List ℕ) (at : ℕ) (bs : List (List ℕ)) (ns : List ℕ) (b : List ℕ) → at ≤ length d → Sized bs ns
-    → with_bytes (with_bytes d at (joined bs)) (at + total ns) b ≡ with_bytes d at (joined (bs ++ b ∷ []))
-with-next d at bs ns b h s = with-more d at (joined bs) b (total ns) h (length-joined bs ns s) ∙ ap (with_bytes d at) (sym (joined_snoc bs b))
+-- lists that are stored in turn, from k bytes behind place `at` on
+abbrev pub stored : ℕ → ℕ → List (List ℕ) → List ℕ → List ℕ → List ℕ
+stored at k [] ns d = d
+stored at k (b ∷ bs) [] d = d
+stored at k (b ∷ bs) (n ∷ ns) d = stored at (k + n) bs ns (with_bytes d (at + k) b)
+
+pub stored_all : (d : List ℕ) (at : ℕ) (p : List ℕ) (k : ℕ) (bs : List (List ℕ)) (ns : List ℕ) → at ≤ length d → length p ≡ k → Sized bs ns
+    → stored at k bs ns (with_bytes d at p) ≡ with_bytes d at (p ++ joined bs)
+unfolding joined
+stored_all d at p k [] ns h e s = ap (with_bytes d at) (sym (append-nil p))
+stored_all d at p k (b ∷ bs) [] h e s = absurd s
+stored_all d at p k (b ∷ bs) (n ∷ ns) h e s =
+    ap (stored at (k + n) bs ns) (with-more d at p b k h e)
+    ∙ stored_all d at (p ++ b) (k + n) bs ns h (length-append p b ∙ (λ i. e i + s.0 i)) s.1
+    ∙ ap (with_bytes d at) (append_assoc p b (joined bs))

@@ -8,12 +8,14 @@ use lib.IntN.{ℤ, pos, ◌+ℤ◌, ◌*ℤ◌, +ℤ_assoc, pos-+ℤ-pos, pos-*�
 use lib.ListN.{length}
 use lib.Pow.{pow_pos}
 use mir.Syntax.{Width, w8, w16, w32, w64, w128}
-use mir.Val.{bits, SFits}
+use mir.Val.{bits, hbits, to_z, of_z, SFits}
+use mir.ValLaws.{of_z_fits}
+use lib.Signed.{mag}
 use Rattle.word.specs.Int.{floor_div, mod_ℤ, wrap}
 use Rattle.word.proofs.Mod.{mod_ℤ_lt, add_multiple, div-mod}
 use Rattle.word.proofs.Ring.{*ℤ_assoc, *ℤ_add_r}
-use Rattle.word.proofs.Words.{mod-wrap, wrap_cong, wrap_id}
-use Rattle.le.specs.Bytes.{Bytes, bytes_of, bytes_in, number_of}
+use Rattle.word.proofs.Words.{kept, low_bits, mod-wrap, wrap_cong, wrap_id}
+use Rattle.le.specs.Bytes.{Bytes, bytes_of, bytes_in, number_of, unsigned_at, signed_at}
 
 -- a number by its lowest byte and what is above it, modulo 256 * K
 mod-split : (z : ℤ) (K : ℕ) → 0 < K → mod_ℤ z (256 * K) ≡ mod_ℤ z 256 + 256 * mod_ℤ (floor_div z 256) K
@@ -99,3 +101,28 @@ wrap_of_bytes w z h =
     ap (λ (k : ℕ). wrap w (pos k)) (number_of-bytes (bytes_in w) z ∙ ap (mod_ℤ z) (word_bytes w))
     ∙ wrap_cong w (pos (mod_ℤ z (2 ^ bits w))) z (mod-eq_of_lt (mod_ℤ_lt z (2 ^ bits w) (pow_pos (bits w))))
     ∙ wrap_id h
+
+-- the word that a number of its bytes is
+pub signed_from : (w : Width) (b : List ℕ) (at u : ℕ) → unsigned_at (bytes_in w) b at ≡ u → u < 2 ^ bits w → to_z w u ≡ signed_at w b at
+unfolding signed_at wrap
+signed_from w b at u e h = ap (to_z w) (sym (mod-eq_of_lt h)) ∙ ap (λ (n : ℕ). to_z w (n % 2 ^ bits w)) (sym e)
+
+-- a word's bits have its bytes
+pub bits_bytes : (w : Width) (z : ℤ) → SFits w z → bytes_of (bytes_in w) (pos (of_z w z)) ≡ bytes_of (bytes_in w) z
+bits_bytes w z h =
+    bytes_cong (bytes_in w) (pos (of_z w z)) z (subst (λ (m : ℕ). of_z w z % m ≡ mod_ℤ z m) (sym (word_bytes w)) (low_bits w 0 (bits w) z (omega arith) h))
+
+-- the four bytes of a number, each by one division
+pub four_low : (n : ℕ) → n % 256 ∷ n / 256 % 256 ∷ n / 65536 % 256 ∷ n / 16777216 % 256 ∷ [] ≡ bytes_of 4 (pos n)
+four_low n =
+    let two : n / 65536 ≡ n / 256 / 256 = omega arith in
+    let three : n / 16777216 ≡ n / 256 / 256 / 256 = omega arith in
+    λ i. n % 256 ∷ n / 256 % 256 ∷ two i % 256 ∷ three i % 256 ∷ []
+
+-- the byte that a signed number's bits are
+pub bits_byte : (z : ℤ) → SFits w8 z → of_z w8 z ≡ mod_ℤ z 256
+bits_byte z h = sym (mod-eq_of_lt (of_z_fits w8 z h).fits) ∙ low_bits w8 0 8 z refl h
+
+-- the same of what a call gave
+pub byte_got : (z : ℤ) {r : ℕ} → mag z < 2 ^ hbits w8 → r ≡ of_z w8 (to_z w8 (of_z w8 z)) → r ≡ mod_ℤ z 256
+byte_got z h e = e ∙ ap (of_z w8) (kept w8 z h) ∙ bits_byte z (record { sfits = h })

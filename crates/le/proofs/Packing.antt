@@ -2,19 +2,25 @@
 use Prim.Native.Nat.{ℕ, zero, suc, ◌+◌, ◌*◌, ◌≤◌, ◌<◌}
 use mathlib.Core.Path.{◌≡◌, refl, sym, ap, ◌∙◌}
 use mathlib.Core.Bool.{Bool, true, false}
-use mathlib.Core.List.{List, [], ◌∷◌, ◌++◌, append_assoc}
+use mathlib.Core.List.{List, [], ◌∷◌, ◌++◌, append_assoc, append-nil}
 use native.Mathlib.Omega.{arith}
 use native.Mathlib.Nat.{mul-le-mul_left}
 use borrow.Author.Tests.{ltb-true, ltb-false}
 use lib.Dec.{ltb}
 use lib.IntN.{ℤ, pos}
 use lib.ListN.{length, get_or, take, drop, length-append, length-drop}
-use lib.Seq.{take_at, drop_at, take-add, drop-drop, get_or-drop, length-take-le}
+use lib.Seq.{take_at, drop_at, take-add, drop-drop, get_or-drop, length-take-le, take_all}
 use mir.Syntax.{Width}
 use mir.Val.{SFits}
+use native.Mathlib.Numerals.{add-one}
+use Rattle.std.specs.Prelude.{map}
+use Rattle.std.specs.List.{flat_map, range_with_len}
+use Rattle.std.proofs.lemmas.List.FromFn.{fill_by_all}
+use Rattle.std.proofs.lemmas.List.{take_more}
+use Rattle.std.proofs.lemmas.List.Concat.{flat_map-append}
 use Rattle.word.specs.Int.{wrap}
 use Rattle.word.specs.Tabulate.{tabulate}
-use Rattle.word.proofs.Lists.{get_or-tabulate, tabulate_cong, tabulate-get_or}
+use Rattle.word.proofs.Lists.{get_or-tabulate, length-tabulate, tabulate_cong, tabulate-get_or}
 use Rattle.le.specs.Bytes.{Bytes, bytes_of, bytes_in, number_of, unsigned_at, signed_at, words_at, packed, with_bytes}
 use Rattle.le.proofs.Numbers.{length-bytes_of, wrap_of_bytes, bytes_of-wrap}
 use Rattle.le.proofs.Places.{with-more, with_none}
@@ -101,17 +107,43 @@ words-again w b at n t h =
         let e : bytes_in w * suc i ≡ bytes_in w * i + bytes_in w = omega arith in
         omega arith
 
--- bytes stored behind numbers that were stored
-pub with-behind : (w : Width) (xs : List ℤ) (n : ℕ) (d : List ℕ) (at : ℕ) (q : List ℕ) → at ≤ length d
-    → with_bytes (with_bytes d at (packed w xs n)) (at + bytes_in w * n) q ≡ with_bytes d at (packed w xs n ++ q)
-with-behind w xs n d at q h = with-more d at (packed w xs n) q (bytes_in w * n) h (length-packed w xs n)
+-- words one behind the other: what is stored so far, and one word more
+module _ {A : Type 0} (f : A → List ℕ) (k : ℕ) (sized : (x : A) → length (f x) ≡ k) where
+  pub length-words : (xs : List A) → length (flat_map f xs) ≡ k * length xs
+  length-words [] = omega arith
+  length-words (x ∷ xs) =
+      let e : k * length (x ∷ xs) ≡ k + k * length xs = omega arith in
+      length-append (f x) (flat_map f xs) ∙ (λ i. sized x i + length-words xs i) ∙ sym e
 
--- a turn of a loop that stores numbers
-pub packed_more : (w : Width) (xs : List ℤ) (d : List ℕ) (at i : ℕ) → at ≤ length d
-    → with_bytes (with_bytes d at (packed w xs i)) (at + bytes_in w * i) (bytes_of (bytes_in w) (get_or xs i (pos 0))) ≡ with_bytes d at (packed w xs (suc i))
-unfolding packed
-packed_more w xs d at i h = with-behind w xs i d at (bytes_of (bytes_in w) (get_or xs i (pos 0))) h
+  pub words_turn : (d : List ℕ) (at : ℕ) (xs : List A) (i : ℕ) (z : A) → at ≤ length d → i < length xs
+      → with_bytes (with_bytes d at (flat_map f (take i xs))) (at + k * i) (f (get_or xs i z)) ≡ with_bytes d at (flat_map f (take (i + 1) xs))
+  words_turn d at xs i z h l =
+      with-more d at (flat_map f (take i xs)) (f (get_or xs i z)) (k * i) h (length-words (take i xs) ∙ ap (λ n. k * n) (length-take-le i xs (omega arith)))
+      ∙ ap (with_bytes d at) (ap (λ b. flat_map f (take i xs) ++ b) (sym (append-nil (f (get_or xs i z)))) ∙ sym (flat_map-append f (take i xs) (get_or xs i z ∷ [])) ∙ ap (flat_map f) (sym (take_more xs i z l)))
 
-pub packed_none : (w : Width) (xs : List ℤ) (d : List ℕ) (at : ℕ) → d ≡ with_bytes d at (packed w xs 0)
+-- there is room for a word more
+pub word_room : (k i n at m : ℕ) → i < n → at + k * n ≤ m → at + k * i + k ≤ m
+word_room k i n at m l h =
+    let p : k * suc i ≤ k * n = mul-le-mul_left k l in
+    let e : k * suc i ≡ k * i + k = omega arith in
+    omega arith
+
+-- such words of a width, all of them
+packed_front : (w : Width) (xs : List ℤ) (n : ℕ) → n ≤ length xs → flat_map (bytes_of (bytes_in w)) (take n xs) ≡ packed w xs n
 unfolding packed
-packed_none w xs d at = sym (with_none d at)
+packed_front w xs zero h = refl
+packed_front w xs (suc n) h =
+    let f : ℤ → List ℕ = bytes_of (bytes_in w) in
+    let x : ℤ = get_or xs n (pos 0) in
+    ap (λ (m : ℕ). flat_map f (take m xs)) (sym (add-one n)) ∙ ap (flat_map f) (take_more xs n (pos 0) (omega arith)) ∙ flat_map-append f (take n xs) (x ∷ [])
+    ∙ (λ i. packed_front w xs n (omega arith) i ++ append-nil (f x) i)
+
+pub packed_all : (w : Width) (xs : List ℤ) (n : ℕ) → length xs ≡ n → flat_map (bytes_of (bytes_in w)) xs ≡ packed w xs n
+packed_all w xs n e =
+    ap (flat_map (bytes_of (bytes_in w))) (sym (take_all n xs (omega (arith, e)))) ∙ packed_front w xs n (omega (arith, e))
+
+-- such words read one behind the other
+pub words_are : (w : Width) (b : List ℕ) (at n : ℕ) → map (λ i. signed_at w b (at + bytes_in w * i)) (range_with_len 0 n) ≡ words_at w b at n
+words_are w b at n =
+    let f : ℕ → ℤ = λ i. signed_at w b (at + bytes_in w * i) in
+    sym (fill_by_all f (tabulate n f) n (pos 0) (length-tabulate n f) (λ i h. get_or-tabulate n f i h))

@@ -1,12 +1,23 @@
 -- Bytes at a place of a list: read by index, and stored.
 use Prim.Native.Nat.{ℕ, suc, ◌+◌, ◌*◌, ◌≤◌, ◌<◌}
-use mathlib.Core.Path.{◌≡◌, sym, ap, ◌∙◌}
+use mathlib.Core.Path.{◌≡◌, refl, sym, ap, ◌∙◌}
+use mathlib.Core.Bool.{Bool, true, false}
+use borrow.Author.Tests.{eqb-true, eq-eqb, ne_eqb}
+use lib.Dec.{eqb}
 use mathlib.Core.List.{List, [], ◌∷◌, ◌++◌, append_assoc, append-nil}
 use native.Mathlib.Omega.{arith}
 use native.Mathlib.Numerals.{add-one}
 use lib.ListN.{length, get_or, set, take, drop, length-append, length-drop, take-append-drop, drop_of_length-le}
 use lib.Seq.{drop-cons, drop-drop, take_at, take-append-add, drop-append-add, length-take-le, set_split, append_snoc}
 use Rattle.le.specs.Bytes.{number_of, unsigned_at, with_bytes}
+
+-- either of two numbers is the other
+pub eqb_swap : (x y : ℕ) → eqb x y ≡ eqb y x
+eqb_swap x y = go (eqb x y) refl
+  where
+    go : (t : Bool) → eqb x y ≡ t → t ≡ eqb y x
+    go true e = sym (eq-eqb y x (sym (eqb-true x y e)))
+    go false e = sym (ne_eqb y x (λ f. let z = eq-eqb x y (sym f) in let k : ◌≡◌ {A = ℕ} 0 1 = cc in omega arith))
 
 -- one, two and four bytes as a number
 module _ (b : List ℕ) (at : ℕ) where
@@ -18,11 +29,13 @@ module _ (b : List ℕ) (at : ℕ) where
   unfolding unsigned_at number_of
   two_bytes h = rw (add-one at, drop-cons b at 0 (omega arith), drop-cons b (suc at) 0 (omega arith)) (omega arith)
 
-pub four_bytes : (b : List ℕ) (at : ℕ) → at + 4 ≤ length b → unsigned_at 4 b at ≡ unsigned_at 2 b at + 65536 * unsigned_at 2 b (at + 2)
+pub four_bytes : (b : List ℕ) (at : ℕ) → at + 4 ≤ length b
+    → unsigned_at 4 b at ≡ get_or b at 0 + 256 * get_or b (at + 1) 0 + 65536 * get_or b (at + 2) 0 + 16777216 * get_or b (at + 3) 0
 unfolding unsigned_at number_of
 four_bytes b at h =
     let two : at + 2 ≡ suc (suc at) = omega arith in
-    rw (two, drop-cons b at 0 (omega arith), drop-cons b (suc at) 0 (omega arith), drop-cons b (suc (suc at)) 0 (omega arith), drop-cons b (suc (suc (suc at))) 0 (omega arith))
+    let three : at + 3 ≡ suc (suc (suc at)) = omega arith in
+    rw (three, two, add-one at, drop-cons b at 0 (omega arith), drop-cons b (suc at) 0 (omega arith), drop-cons b (suc (suc at)) 0 (omega arith), drop-cons b (suc (suc (suc at))) 0 (omega arith))
     (omega arith)
 
 front : (d : List ℕ) (at : ℕ) (p : List ℕ) → at ≤ length d → length (take at d ++ p) ≡ at + length p
@@ -53,11 +66,6 @@ unfolding with_bytes
 with_none d at =
     let e : at + 0 ≡ at = omega arith in
     rw (append-nil (take at d), e) (take-append-drop at d)
-
--- a byte stored
-pub with_byte : (d : List ℕ) (at v : ℕ) → at < length d → set d at v ≡ with_bytes d at (v ∷ [])
-unfolding with_bytes
-with_byte d at v h = rw (set_split d at v h, add-one at) (sym (append_snoc (take at d) v (drop (suc at) d)))
 
 -- bytes stored over all of a list
 pub with-whole : (d b : List ℕ) → length d ≤ length b → with_bytes d 0 b ≡ b

@@ -2,19 +2,11 @@
 // Inner: every function.
 #![tactic(auto)]
 
-ghost use Rattle.std.specs.Prelude.{◌≡◌, ◌+◌, ◌*◌, ◌≤◌, ◌<◌, pos, length, drop, replicate};
+ghost use Rattle.std.specs.Prelude.{◌≡◌, ◌+◌, ◌*◌, ◌≤◌, ◌<◌, ℕ, List, pos, length, drop, replicate, map, refl};
+ghost use Rattle.std.specs.List.{flat_map, range_with_len};
 ghost use Rattle.std.specs.Int.{w8, w16, w32};
-ghost use Rattle.word.specs.Int.{wrap, mod_ℤ};
-ghost use Rattle.le.specs.Bytes.{bytes_of, unsigned_at, signed_at, words_at, packed, with_bytes, same};
-
-use word::{low16, of_bits32, shr32, wide16};
-
-// The same number, in 32 bits.
-fn wide_byte(x: u8) -> u32
-    ensures { (result ≡ x) × (result < 256) }
-{
-    x as u32
-}
+ghost use Rattle.word.specs.Int.{mod_ℤ};
+ghost use Rattle.le.specs.Bytes.{bytes_of, unsigned_at, signed_at, with_bytes, same};
 
 // The same number, as a signed one.
 pub fn signed_byte(x: u8) -> i32
@@ -23,77 +15,139 @@ pub fn signed_byte(x: u8) -> i32
     x as i32
 }
 
-pub fn u16_at(b: &[u8], at: usize) -> u32
-    requires { at + 2 ≤ length b.now }
-    ensures { (result ≡ unsigned_at 2 b.now at) × (result < 65536) }
-{
-    wide_byte(b[at]) + 256 * wide_byte(b[at + 1])
+// A number of so many bytes.
+pub trait Word: Copy + Default {
+    ghost SIZE: { ℕ };
+
+    const SIZE: usize;
+
+    // The number that stands from a place on, and the bytes of a number.
+    ghost word_at: { List ℕ → ℕ → Self };
+
+    ghost bytes: { Self → List ℕ };
+
+    fn at(b: &[u8], at: usize) -> Self
+        requires { at + SIZE ≤ length b.now }
+        ensures { result ≡ word_at b.now at };
+
+    fn put(self, to: &mut [u8], at: usize)
+        requires { at + SIZE ≤ length to.old }
+        ensures { to.new ≡ with_bytes to.old at (bytes self) };
+
+    ghost sized: { (x : Self) → length (bytes x) ≡ SIZE };
 }
 
-pub fn u32_at(b: &[u8], at: usize) -> u32
-    requires { at + 4 ≤ length b.now }
-    ensures { result ≡ unsigned_at 4 b.now at }
-{
-    u16_at(b, at) + 65536 * u16_at(b, at + 2)
-}
+impl Word for i8 {
+    ghost SIZE = { 1 };
 
-// The low 8 bits.
-fn low8(x: i16) -> i8
-    ensures { result ≡ wrap w8 x }
-{
-    ((x << 8) >> 8) as i8
-}
+    const SIZE: usize = 1;
 
-fn of_bits8(u: u8) -> i8
-    ensures { result ≡ wrap w8 (pos u) }
-{
-    low8(u as i16)
-}
+    ghost word_at = { signed_at w8 };
 
-fn of_bits16(u: u32) -> i16
-    requires { u < 65536 }
-    ensures { result ≡ wrap w16 (pos u) }
-{
-    low16(u as i32)
-}
+    ghost bytes = { bytes_of 1 };
 
-pub fn i8_at(b: &[u8], at: usize) -> i8
-    requires { at + 1 ≤ length b.now }
-    ensures { result ≡ signed_at w8 b.now at }
-{
-    of_bits8(b[at])
-}
-
-fn i16_at(b: &[u8], at: usize) -> i16
-    requires { at + 2 ≤ length b.now }
-    ensures { result ≡ signed_at w16 b.now at }
-{
-    of_bits16(u16_at(b, at))
-}
-
-pub fn i32_at(b: &[u8], at: usize) -> i32
-    requires { at + 4 ≤ length b.now }
-    ensures { result ≡ signed_at w32 b.now at }
-{
-    of_bits32(u32_at(b, at))
-}
-
-pub fn i16s_at(b: &[u8], at: usize, to: &mut [i16])
-    requires { at + 2 * length to.old ≤ length b.now }
-    ensures { to.new ≡ words_at w16 b.now at (length to.old) }
-{
-    for i in 0..to.len() {
-        to[i] = i16_at(b, at + 2 * i);
+    fn at(b: &[u8], at: usize) -> i8 {
+        i8::from_le_bytes([b[at]])
     }
+
+    fn put(self, to: &mut [u8], at: usize) {
+        put_bytes(to, at, &self.to_le_bytes());
+    }
+
+    ghost sized = { λ _. refl };
 }
 
-pub fn i32s_at(b: &[u8], at: usize, to: &mut [i32])
-    requires { at + 4 * length to.old ≤ length b.now }
-    ensures { to.new ≡ words_at w32 b.now at (length to.old) }
-{
-    for i in 0..to.len() {
-        to[i] = i32_at(b, at + 4 * i);
+impl Word for u16 {
+    ghost SIZE = { 2 };
+
+    const SIZE: usize = 2;
+
+    ghost word_at = { unsigned_at 2 };
+
+    ghost bytes = { λ x. bytes_of 2 (pos x) };
+
+    fn at(b: &[u8], at: usize) -> u16 {
+        u16::from_le_bytes([b[at], b[at + 1]])
     }
+
+    fn put(self, to: &mut [u8], at: usize) {
+        put_bytes(to, at, &self.to_le_bytes());
+    }
+
+    ghost sized = { λ _. refl };
+}
+
+impl Word for i16 {
+    ghost SIZE = { 2 };
+
+    const SIZE: usize = 2;
+
+    ghost word_at = { signed_at w16 };
+
+    ghost bytes = { bytes_of 2 };
+
+    fn at(b: &[u8], at: usize) -> i16 {
+        i16::from_le_bytes([b[at], b[at + 1]])
+    }
+
+    fn put(self, to: &mut [u8], at: usize) {
+        put_bytes(to, at, &i16::to_le_bytes(self));
+    }
+
+    ghost sized = { λ _. refl };
+}
+
+impl Word for u32 {
+    ghost SIZE = { 4 };
+
+    const SIZE: usize = 4;
+
+    ghost word_at = { unsigned_at 4 };
+
+    ghost bytes = { λ x. bytes_of 4 (pos x) };
+
+    fn at(b: &[u8], at: usize) -> u32 {
+        u32::from_le_bytes([b[at], b[at + 1], b[at + 2], b[at + 3]])
+    }
+
+    fn put(self, to: &mut [u8], at: usize) {
+        put_bytes(to, at, &self.to_le_bytes());
+    }
+
+    ghost sized = { λ _. refl };
+}
+
+impl Word for i32 {
+    ghost SIZE = { 4 };
+
+    const SIZE: usize = 4;
+
+    ghost word_at = { signed_at w32 };
+
+    ghost bytes = { bytes_of 4 };
+
+    fn at(b: &[u8], at: usize) -> i32 {
+        i32::from_le_bytes([b[at], b[at + 1], b[at + 2], b[at + 3]])
+    }
+
+    fn put(self, to: &mut [u8], at: usize) {
+        put_bytes(to, at, &self.to_le_bytes());
+    }
+
+    ghost sized = { λ _. refl };
+}
+
+// N numbers, one behind the other, from place at on.
+#[tactic(auto, using(crate::proofs::Packing::word_room))]
+pub fn words_at<T: Word, const N: usize>(b: &[u8], at: usize) -> [T; N]
+    requires { at + T.SIZE * N ≤ length b.now }
+    ensures { result ≡ map (λ i. T.word_at b.now (at + T.SIZE * i)) (range_with_len 0 N) }
+{
+    let mut words = [T::default(); N];
+    for (i, x) in words.iter_mut().enumerate() {
+        *x = T::at(b, at + T::SIZE * i);
+    }
+    words
 }
 
 pub fn low_byte(x: i32) -> u8
@@ -102,71 +156,32 @@ pub fn low_byte(x: i32) -> u8
     (x & 255) as u8
 }
 
-fn bytes2(x: i16) -> [u8; 2]
-    ensures { result ≡ bytes_of 2 x }
-{
-    let z = wide16(x);
-    [low_byte(z), low_byte(shr32(z, 8))]
-}
-
-fn bytes4(x: i32) -> [u8; 4]
-    ensures { result ≡ bytes_of 4 x }
-{
-    let second = shr32(x, 8);
-    let third = shr32(second, 8);
-    [
-        low_byte(x),
-        low_byte(second),
-        low_byte(third),
-        low_byte(shr32(third, 8)),
-    ]
-}
-
 // All bytes, stored from place at on.
+#[tactic(auto, unfolding(crate::specs::Bytes::with_bytes))]
 pub fn put_bytes(to: &mut [u8], at: usize, bytes: &[u8])
     requires { at + length bytes.now ≤ length to.old }
     ensures { to.new ≡ with_bytes to.old at bytes.now }
 {
-    for i in 0..bytes.len() {
-        to[at + i] = bytes[i];
-    }
+    to[at..at + bytes.len()].copy_from_slice(bytes);
 }
 
 // n zeros, likewise.
+#[tactic(auto, unfolding(crate::specs::Bytes::with_bytes))]
 pub fn put_zeros(to: &mut [u8], at: usize, n: usize)
     requires { at + n ≤ length to.old }
     ensures { to.new ≡ with_bytes to.old at (replicate n 0) }
 {
-    for i in 0..n {
-        to[at + i] = 0;
-    }
+    to[at..at + n].fill(0);
 }
 
-pub fn put32(to: &mut [u8], at: usize, x: i32)
-    requires { at + 4 ≤ length to.old }
-    ensures { to.new ≡ with_bytes to.old at (bytes_of 4 x) }
+// All numbers, likewise.
+#[tactic(auto, using(crate::proofs::Packing::word_room))]
+pub fn put_words<T: Word>(to: &mut [u8], at: usize, numbers: &[T])
+    requires { at + T.SIZE * length numbers.now ≤ length to.old }
+    ensures { to.new ≡ with_bytes to.old at (flat_map T.bytes numbers.now) }
 {
-    let b = bytes4(x);
-    put_bytes(to, at, &b);
-}
-
-// All numbers, stored from place at on.
-pub fn put16s(to: &mut [u8], at: usize, numbers: &[i16])
-    requires { at + 2 * length numbers.now ≤ length to.old }
-    ensures { to.new ≡ with_bytes to.old at (packed w16 numbers.now (length numbers.now)) }
-{
-    for i in 0..numbers.len() {
-        let b = bytes2(numbers[i]);
-        put_bytes(to, at + 2 * i, &b);
-    }
-}
-
-pub fn put32s(to: &mut [u8], at: usize, numbers: &[i32])
-    requires { at + 4 * length numbers.now ≤ length to.old }
-    ensures { to.new ≡ with_bytes to.old at (packed w32 numbers.now (length numbers.now)) }
-{
-    for i in 0..numbers.len() {
-        put32(to, at + 4 * i, numbers[i]);
+    for (i, x) in numbers.iter().enumerate() {
+        x.put(to, at + T::SIZE * i);
     }
 }
 
@@ -175,9 +190,5 @@ pub fn stands_at(b: &[u8], at: usize, mark: &[u8]) -> bool
     requires { at + length mark.now ≤ length b.now }
     ensures { result ≡ same (drop at b.now) mark.now (length mark.now) }
 {
-    let mut ok = true;
-    for i in 0..mark.len() {
-        ok = ok & (b[at + i] == mark[i]);
-    }
-    ok
+    b[at..].starts_with(mark)
 }

@@ -1,11 +1,11 @@
 -- The numbers of a line of text.
-use Rattle.std.specs.Prelude.{ℕ, ◌+◌, ◌-◌, Bool, true, false, cond, List, eqb, ltb, ℤ, pos, neg_ℤ, ◌+ℤ◌, ◌*ℤ◌, set, replicate}
+use Rattle.std.specs.Prelude.{ℕ, ◌+◌, ◌-◌, Bool, false, cond, List, eqb, ltb, ℤ, pos, neg_ℤ, ◌+ℤ◌, ◌*ℤ◌, set, replicate, Option, Some, None, unwrap_or}
 use Rattle.word.specs.Int.{wrap32}
 use Rattle.line.specs.declared.Line.{Line}
 
 -- a row of `count` numbers, before its next one; negative: a minus sign was the last byte
 unfoldable pub begun : List ℤ → ℕ → Bool → Line
-begun row count negative = record { row = row; count = count; value = pos 0; negative = negative; inside = false }
+begun row count negative = record { row = row; count = count; value = None; negative = negative }
 
 unfoldable pub blank : Line
 blank = begun (replicate 64 (pos 0)) 0 false
@@ -14,22 +14,26 @@ unfoldable pub signed : ℤ → Bool → ℤ
 signed value negative = cond negative (wrap32 (neg_ℤ value)) value
 
 -- a number goes into the row: the first 64 do
-unfoldable pub stored : Line → Bool → Line
-stored l negative =
-    cond (ltb l.count 64) (begun (set l.row l.count (signed l.value l.negative)) (l.count + 1) negative)
+unfoldable pub stored : Line → ℤ → Bool → Line
+stored l value negative =
+    cond (ltb l.count 64) (begun (set l.row l.count (signed value l.negative)) (l.count + 1) negative)
     (begun l.row l.count negative)
 
+-- what a byte that is no digit leaves, of the number that is being read
+unfoldable pub left_by : Line → Bool → Option ℤ → Line
+left_by l negative (Some value) = stored l value negative
+left_by l negative None = begun l.row l.count negative
+
 unfoldable pub ended : Line → Bool → Line
-ended l negative = cond l.inside (stored l negative) (begun l.row l.count negative)
+ended l negative = left_by l negative l.value
 
 unfoldable pub digit : Line → ℕ → Line
 digit l d =
     record {
       row = l.row;
       count = l.count;
-      value = wrap32 (wrap32 (l.value *ℤ pos 10) +ℤ pos d);
+      value = Some (wrap32 (wrap32 (unwrap_or l.value (pos 0) *ℤ pos 10) +ℤ pos d));
       negative = l.negative;
-      inside = true;
     }
 
 -- a digit, 48 to 57, goes on with a number; every other byte ends one, and a minus sign, 45, makes the next one negative

@@ -2,46 +2,42 @@
 // Inner: every function.
 #![tactic(auto)]
 
-ghost use Rattle.std.specs.Prelude.{◌≡◌, false, pos, replicate};
+ghost use Rattle.std.specs.Prelude.{◌≡◌};
 ghost use Rattle.line.specs.Line.{blank, signed, begun, stored, ended, digit, fed};
 
 use word::{add32, mul32, neg32};
 
 // The first 64 numbers of a line, and the number that is being read.
+// The count stays beside the row: there is no heap, and a program reads the row whole, with zeros behind its numbers.
 #[derive(Clone, Copy)]
 pub struct Line {
     pub row: [i32; 64],
     pub count: usize,
-    value: i32,
+    value: Option<i32>,
     negative: bool,
-    inside: bool,
 }
 
-fn zeros() -> [i32; 64]
-    ensures { result ≡ replicate 64 (pos 0) }
-{
-    [0; 64]
-}
-
+#[tactic(auto, unfolding(crate::specs::Line::blank))]
 pub fn blank() -> Line
     ensures { result ≡ blank }
 {
-    begun(zeros(), 0, false)
+    begun([0; 64], 0, false)
 }
 
 // A row, before its next number.
+#[tactic(auto, unfolding(crate::specs::Line::begun))]
 fn begun(row: [i32; 64], count: usize, negative: bool) -> Line
     ensures { result ≡ begun row count negative }
 {
     Line {
         row,
         count,
-        value: 0,
+        value: None,
         negative,
-        inside: false,
     }
 }
 
+#[tactic(auto, unfolding(crate::specs::Line::signed))]
 fn signed(value: i32, negative: bool) -> i32
     ensures { result ≡ signed value negative }
 {
@@ -49,47 +45,49 @@ fn signed(value: i32, negative: bool) -> i32
 }
 
 // A number goes into the row where there is room.
-fn stored(l: Line, negative: bool) -> Line
-    ensures { result ≡ stored l negative }
+#[tactic(auto, unfolding(crate::specs::Line::stored))]
+fn stored(l: Line, value: i32, negative: bool) -> Line
+    ensures { result ≡ stored l value negative }
 {
     let mut row = l.row;
-    let at = l.count;
-    if at >= 64 {
-        return begun(row, at, negative);
+    if l.count < 64 {
+        row[l.count] = signed(value, l.negative);
+        begun(row, l.count + 1, negative)
+    } else {
+        begun(row, l.count, negative)
     }
-    row[at] = signed(l.value, l.negative);
-    begun(row, at + 1, negative)
 }
 
 // The byte that is read is no digit, and ends the number before it, if there is one.
+#[tactic(auto, unfolding(crate::specs::Line::ended, crate::specs::Line::left_by))]
 fn ended(l: Line, negative: bool) -> Line
     ensures { result ≡ ended l negative }
 {
-    if l.inside {
-        return stored(l, negative);
+    match l.value {
+        Some(value) => stored(l, value, negative),
+        None => begun(l.row, l.count, negative),
     }
-    let row = l.row;
-    begun(row, l.count, negative)
 }
 
+#[tactic(auto, unfolding(crate::specs::Line::digit))]
 fn digit(l: Line, d: u8) -> Line
     ensures { result ≡ digit l d }
 {
-    let mut new = l;
-    new.value = add32(mul32(l.value, 10), d as i32);
-    new.inside = true;
-    new
+    let value = add32(mul32(l.value.unwrap_or(0), 10), i32::from(d));
+    Line {
+        value: Some(value),
+        ..l
+    }
 }
 
 // The line with one more byte.
+#[tactic(auto, unfolding(crate::specs::Line::fed))]
 pub fn fed(l: Line, b: u8) -> Line
     ensures { result ≡ fed l b }
 {
-    if b < b'0' {
-        return ended(l, b == b'-');
+    match b {
+        b'0'..=b'9' => digit(l, b - b'0'),
+        b'-' => ended(l, true),
+        _ => ended(l, false),
     }
-    if b > b'9' {
-        return ended(l, false);
-    }
-    digit(l, b - b'0')
 }

@@ -14,9 +14,8 @@ use Rattle.word.proofs.Order.{eq_ℤ_refl}
 use Rattle.word.proofs.Rows.{both}
 use Rattle.edition.specs.Edition.{is_edition}
 use Rattle.edition.proofs.Editions.{one_of_two}
-use Rattle.refusal.specs.Refusals.{refusal_number}
-use Rattle.refusal.specs.declared.Refusal.{Refusal}
-use Rattle.refusal.specs.declared.Refusal.TheVariants.{Nothing}
+use Rattle.std.specs.Prelude.{Ok}
+use Rattle.refusal.specs.Refusals.{Judged, code_of}
 use Rattle.nlsf.specs.Filter.{nlsf2a_refusal}
 use Rattle.announcement.proofs.Taken.{any_order}
 use Rattle.shape.specs.Shape.{is_rate, rate_of}
@@ -68,7 +67,7 @@ module _ (m : Held) (f : FromAccepted m) where
     enough : order_held m ≤ length lines
     enough = taken_le (order_held m) lines (noise_held m).cng_smth_nlsf_q15 (omega (arith, long, order_le r)) same
 
-    accepted : nlsf2a_refusal (length out) lines (order_held m) (edition_held m) ≡ Nothing
+    accepted : nlsf2a_refusal (length out) lines (order_held m) (edition_held m) ≡ Ok tt
     accepted =
         any_order (length out) lines (order_held m) (edition_held m) (order_two (rates (one m.words 338) is-rate)) room enough
         (λ k l. rw (line k l) (natural _ ((ready_held r (state_of m).s_cng held.cng).cng_smth_nlsf_q15 k l).is))
@@ -78,7 +77,7 @@ pub announced_linked : AnnouncedLinked
 unfolding filter_call
 announced_linked m lines out f room same =
     let a = accepted m f lines out room same in
-    (ap (λ (r : Refusal). pos (refusal_number r)) a, announced (edition_held m) (noise_held m) lines out (order_held m) same a)
+    (ap (λ (j : Judged). pos (code_of j)) a, announced (edition_held m) (noise_held m) lines out (order_held m) same a)
 
 pub lines_seen : LinesSeen
 unfolding state_in cng_in cng_ready

@@ -1,20 +1,23 @@
 -- A call of post_frame is a whole-frame call on the state that the slices hold, unless a slice is short.
-use Prim.Native.Nat.{ℕ, ◌≤◌}
+use Prim.Native.Nat.{◌≤◌}
 use mathlib.Core.Path.{◌≡◌, refl, sym, ap, ◌∙◌, subst}
 use mathlib.Core.Bool.{Bool, true, false, cond, false≢true}
 use native.Mathlib.Omega.{arith}
-use lib.Dec.{eqb}
-use lib.IntN.{ℤ, pos, negsuc, nat_abs, pos-ne-negsuc}
+use lib.IntN.{ℤ, pos, nat_abs, pos-ne-negsuc}
 use lib.ListN.{length}
 use Rattle.word.specs.Int.{eq_ℤ}
 use Rattle.word.proofs.Order.{eq_ℤ_true}
 use Rattle.sigproc.proofs.Places.{length-put_at}
-use Rattle.refusal.specs.Refusals.{refusal_number}
+use Rattle.std.specs.Prelude.{Result, Ok, Err}
+use Rattle.refusal.specs.Refusals.{Judged, code_of, if_accepted, answered as judged_by}
+use Rattle.refusal.proofs.Clear.{refuses, accepted, answered_is}
 use Rattle.refusal.specs.declared.Refusal.{Refusal}
+use Rattle.decoder.specs.Answer.{answer}
+use Rattle.decoder.specs.declared.Answer.{Answer}
 use Rattle.decoder.specs.declared.SilkDecoderState.{SilkDecoderState}
 use Rattle.decoder.specs.declared.Frame.{Frame}
 use Rattle.decoder.specs.declared.Frame.TheVariants.{Received, Lost}
-use Rattle.decode_frame.specs.Answer.{frame_refusal, frame_answer}
+use Rattle.decode_frame.specs.Answer.{frame_refusal, frame_outcome, frame_answer, state_left}
 use Rattle.decode_frame.proofs.Kept.{Good}
 use Rattle.lists.specs.Lists.{state_after, held_sum, Losses, counted, count_after}
 use Rattle.lists.specs.Claims.{NotForState, TypedBeside, TypedCall}
@@ -23,44 +26,40 @@ use Rattle.layout.specs.Layout.{WORDS, HALVES, state_words, state_halves, with_w
 use Rattle.layout.specs.Frame.{COEFS}
 use Rattle.layout.proofs.Stored.{stored, words_count, halves_count}
 use Rattle.layout.proofs.Slices.{part-words, control_typed, rows_typed, call_long}
-use Rattle.slices.specs.Slices.{Slices, unless}
+use Rattle.slices.specs.Slices.{Slices, leaves}
 use Rattle.slices.specs.Whole.{played_on, answered}
-use Rattle.post.specs.Calls.{Called, called}
+use Rattle.post.specs.Calls.{called}
 use Rattle.post.specs.Stages.{call_short, frame_call}
 use Rattle.linked.specs.Linked.{Held, state_of, Linked, lent_to, call_of, brought_by, held_in, left_by, losses_after}
 use Rattle.linked.specs.Claims.{TypedLinked}
 
--- ---- an exported call
-module _ (short : Bool) (r : Refusal) (new lent : Slices) where
-  abbrev call : Called
-  call = called short (unless r new lent) lent
+-- ---- an exported call: j is what the call on the state answers, and `left` the slices of its value
+-- one that answers 0
+pub record Played {A : Type 0} (short : Bool) (j : Result A Refusal) (left : A → Slices) (lent : Slices) : Type 0 where
+  pub value : A
+  pub long : short ≡ false
+  pub is : j ≡ Ok value
+  pub after : (called short (leaves j left lent) lent).after ≡ left value
 
-  -- one that answers 0 leaves the new slices
-  pub played : call.answer ≡ pos 0 → (short ≡ false) × (refusal_number r ≡ 0) × (call.after ≡ new)
+module _ {A : Type 0} where
+  pub played : (short : Bool) (j : Result A Refusal) (left : A → Slices) (lent : Slices) → (called short (leaves j left lent) lent).answer ≡ pos 0 → Played short j left lent
   unfolding called
-  played = go short refl
-    where
-      go : (b : Bool) → short ≡ b → cond b (negsuc 0) (pos (refusal_number r)) ≡ pos 0 → (short ≡ false) × (refusal_number r ≡ 0) × (cond b lent (cond (eqb (refusal_number r) 0) new lent) ≡ new)
-      go true e z = absurd (pos-ne-negsuc 0 0 (sym z))
-      go false e z = let n = ap nat_abs z in (e, n, rw n refl)
+  played true j left lent z = absurd (pos-ne-negsuc 0 0 (sym z))
+  played false (Ok a) left lent z = record { value = a; long = refl; is = refl; after = refl }
+  played false (Err r) left lent z = absurd (refuses r (ap nat_abs z))
 
-  -- any other leaves those lent
-  pub unplayed : eq_ℤ call.answer (pos 0) ≡ false → call.after ≡ lent
+  -- any other leaves the slices as lent
+  unplayed : (short : Bool) (j : Result A Refusal) (left : A → Slices) (lent : Slices) → eq_ℤ (called short (leaves j left lent) lent).answer (pos 0) ≡ false → (called short (leaves j left lent) lent).after ≡ lent
   unfolding called
-  unplayed = go short (eqb (refusal_number r) 0) refl
-    where
-      go : (b d : Bool) → eqb (refusal_number r) 0 ≡ d → eq_ℤ (cond b (negsuc 0) (pos (refusal_number r))) (pos 0) ≡ false → cond b lent (cond d new lent) ≡ lent
-      go true d e z = refl
-      go false true e z = absurd (false≢true (sym z ∙ e))
-      go false false e z = refl
+  unplayed true j left lent z = refl
+  unplayed false (Ok a) left lent z = absurd (false≢true (sym z))
+  unplayed false (Err r) left lent z = refl
 
-  pub not_for_state : (khz nb : ℤ) → NotForState khz nb (pos (refusal_number r)) → NotForState khz nb call.answer
+  not_for_state : (short : Bool) (j : Judged) (x : A) (left : A → Slices) (lent : Slices) (khz nb : ℤ) → NotForState khz nb (pos (code_of j)) → NotForState khz nb (called short (leaves (judged_by j x) left lent) lent).answer
   unfolding called
-  not_for_state khz nb h = go short
-    where
-      go : (b : Bool) → NotForState khz nb (cond b (negsuc 0) (pos (refusal_number r)))
-      go true = (λ e. absurd (pos-ne-negsuc 1 0 (sym e)), λ e. absurd (pos-ne-negsuc 2 0 (sym e)), λ e. pos-ne-negsuc 3 0 (sym e))
-      go false = h
+  not_for_state true j x left lent khz nb h = (λ e. absurd (pos-ne-negsuc 1 0 (sym e)), λ e. absurd (pos-ne-negsuc 2 0 (sym e)), λ e. pos-ne-negsuc 3 0 (sym e))
+  not_for_state false (Ok u) x left lent khz nb h = h
+  not_for_state false (Err r) x left lent khz nb h = h
 
 -- ---- slices that hold a good state
 abbrev pub Long : Held → Type 0
@@ -97,17 +96,23 @@ module _ (m : Held) (x : Linked) where
       beside k Lost = tt
 
   -- one that answers 0
-  pub frame-played : (call_of m x).answer ≡ pos 0 → (call_short (lent_to m x) ≡ false) × (refusal_number (frame_refusal (state_of m) (brought_by x)) ≡ 0) × (left_by (call_of m x) ≡ stored_in m (state_after (state_of m) (brought_by x)))
+  pub frame-played : (call_of m x).answer ≡ pos 0 → (call_short (lent_to m x) ≡ false) × (code_of (frame_refusal (state_of m) (brought_by x)) ≡ 0) × (left_by (call_of m x) ≡ stored_in m (state_after (state_of m) (brought_by x)))
   unfolding frame_call answered played_on state_after frame_answer
-  frame-played z = let p = played _ _ _ _ z in (p.0, p.1, ap held_in p.2)
+  frame-played z =
+      let s = state_of m in
+      let b = brought_by x in
+      let p = played _ _ _ _ z in
+      let k = answered_is (frame_refusal s b) _ p.value p.is in
+      let new = (λ i. state_left s (answer (accepted (frame_refusal s b) k.0 i) (frame_outcome s b))) ∙ ap (λ (a : Answer). a.state) k.1 in
+      (p.long, k.0, ap held_in p.after ∙ sym (ap (stored_in m) new))
 
   frame-unplayed : eq_ℤ (call_of m x).answer (pos 0) ≡ false → left_by (call_of m x) ≡ m
   unfolding frame_call answered
   frame-unplayed z = ap held_in (unplayed _ _ _ _ z)
 
-  pub frame_not_for_state : (khz nb : ℤ) → NotForState khz nb (pos (refusal_number (frame_refusal (state_of m) (brought_by x)))) → NotForState khz nb (call_of m x).answer
-  unfolding frame_call answered
-  frame_not_for_state khz nb h = not_for_state _ _ _ _ khz nb h
+  pub frame_not_for_state : (khz nb : ℤ) → NotForState khz nb (pos (code_of (frame_refusal (state_of m) (brought_by x)))) → NotForState khz nb (call_of m x).answer
+  unfolding frame_call answered frame_answer
+  frame_not_for_state khz nb h = not_for_state _ (frame_refusal (state_of m) (brought_by x)) _ _ _ khz nb h
 
   module _ (t : TypedLinked x) (g : GoodHeld m) where
     -- one that answers 0 leaves what the whole-frame call leaves
@@ -131,7 +136,7 @@ module _ (m : Held) (x : Linked) where
             let z = eq_ℤ_true (call_of m x).answer (pos 0) e in
             let p = frame-played z in
             let k = frame-left z in
-            let r = subst (λ (j : ℕ). R (state_after (state_of m) (brought_by x)) (cond (eqb j 0) next l)) p.1 (f (brought_typed t p.0)) in
+            let r = subst (λ (j : Judged). R (state_after (state_of m) (brought_by x)) (if_accepted j next l)) (accepted _ p.1) (f (brought_typed t p.0)) in
             (k.0, subst (λ (s : SilkDecoderState). R s next) (sym k.1) r)
         go false e =
             let s = frame-unplayed e in

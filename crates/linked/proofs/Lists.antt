@@ -8,12 +8,12 @@ use lib.IntN.{ℤ, pos, nat_abs}
 use lib.ListN.{length, drop}
 use lib.Seq.{get_or-take, get_or-drop}
 use Rattle.sigproc.proofs.Places.{part-take}
-use Rattle.refusal.specs.Refusals.{refusal_number}
+use Rattle.refusal.specs.Refusals.{code_of}
 use Rattle.shape.specs.Shape.{Shape, frame_length, mem_length, lpc_order}
 use Rattle.decoder.specs.State.{shape_of}
 use Rattle.decoder.specs.Reshape.{reshaped_by, reshaped}
 use Rattle.decoder.proofs.Coming.{Own}
-use Rattle.decoder.specs.SetUp.{set_up_with}
+use Rattle.decoder.proofs.SetUps.{set_up-fresh}
 use Rattle.decoder.specs.declared.SilkDecoderState.{SilkDecoderState}
 use Rattle.decoder.specs.declared.Frame.TheVariants.{Lost}
 use Rattle.plc.specs.Conceal.{later_gain, plc_conceal}
@@ -25,7 +25,7 @@ use Rattle.decode_frame.specs.Answer.{frame_refusal}
 use Rattle.lists.specs.Lists.{state_after, held_sum, Losses, no_losses, count_after}
 use Rattle.lists.specs.Claims.{Every, none, then, TypedCall}
 use Rattle.lists.proofs.Keeps.{new_state, coming_good, keeps, keeps_own, every_map}
-use Rattle.lists.proofs.History.{not_refused, set_up-shaped}
+use Rattle.lists.proofs.History.{not_refused}
 use Rattle.lists.proofs.Lost.{last_frame_lem}
 use Rattle.lists.proofs.Losses.{Counts, counts-after, set_up-counts}
 use Rattle.lists.proofs.Loud.{shape-after, lost_state, Quietens, fresh, quietens_after, Enough, long-enough, ordinary_enough, place_quiet}
@@ -54,13 +54,11 @@ module _ (R : SilkDecoderState → Losses → Type 0) (step : (s : SilkDecoderSt
 
 -- ---- where a list starts
 set_up-held : (m : Held) → FromSetUp m → GoodHeld m × Counts (state_of m) no_losses
-unfolding set_up_call set_up_on set_up_with
+unfolding set_up_call set_up_on
 set_up-held m f =
     let p = played _ _ _ _ f.answered in
-    let h = set_up-shaped f.rate f.subframes f.settings p.1 in
-    let c = set_up-counts f.rate f.subframes f.settings h.0 h.1 h.2 in
-    let e = f.left ∙ ap held_in p.2 in
-    let l = stored-good f.lent m (set_up_with f.rate f.subframes f.settings).state e (state_long (length f.lent.words) (length f.lent.halves) p.0) c.good in
+    let c = set_up-counts f.rate f.subframes f.settings p.value (set_up-fresh f.rate f.subframes f.settings p.value p.is) in
+    let l = stored-good f.lent m p.value (f.left ∙ ap held_in p.after) (state_long (length f.lent.words) (length f.lent.halves) p.long) c.good in
     (l.0, subst (λ (s : SilkDecoderState). Counts s no_losses) (sym l.1) c)
 
 pub accepted-held : (m : Held) → FromAccepted m → GoodHeld m
@@ -98,7 +96,7 @@ module _ {R : SilkDecoderState → Losses → Type 0} (t : At) (so : Stands R t)
   left : GoodHeld (slices_after t) × (state_of (slices_after t) ≡ state_after s x)
   left = frame-left t.held t.call so.typed so.held z.1
 
-  accepted : refusal_number (frame_refusal s x) ≡ 0
+  accepted : code_of (frame_refusal s x) ≡ 0
   accepted = (frame-played t.held t.call z.1).1
 
   is-new : state_of (slices_after t) ≡ new_state s Lost x

@@ -1,3 +1,3 @@
 -- The laws that the proofs cite.
 pub mod Counting
-pub mod Filling
+pub mod Mapping

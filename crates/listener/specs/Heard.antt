@@ -2,7 +2,6 @@
 use Rattle.std.specs.Prelude.{ℕ, zero, suc, ◌+◌, Bool, not, cond, ◌&&◌, List, map, ltb, leb, ℤ}
 use Rattle.listener.specs.declared.Link.{Link}
 use Rattle.listener.specs.declared.Counts.{Counts}
-use Rattle.listener.specs.declared.Rows.{Rows}
 use Rattle.listener.specs.Link.{good_at}
 
 pub data Heard : Type 0 where
@@ -28,19 +27,13 @@ unfoldable pub count_to : Heard → ℕ → Link → ℤ → ℕ → ℕ
 count_to h q k seed zero = 0
 count_to h q k seed (suc i) = count_to h q k seed i + cond (heard_by h q (good_at k seed i) (losses_at k seed i)) 1 0
 
+-- a count for each way
+abbrev pub each : (Heard → ℕ) → Counts
+each count = record { received = count as_received; concealed = count as_concealed; squelched = count as_squelched }
+
 unfoldable pub counts_of : ℕ → Link → ℤ → ℕ → Counts
-counts_of q k seed n =
-    record {
-      received = count_to as_received q k seed n;
-      concealed = count_to as_concealed q k seed n;
-      squelched = count_to as_squelched q k seed n;
-    }
+counts_of q k seed n = each (λ h. count_to h q k seed n)
 
 -- each listener has a seed
-unfoldable pub rows_of : ℕ → Link → ℕ → List ℤ → Rows
-rows_of q k n seeds =
-    record {
-      received = map (λ x. count_to as_received q k x n) seeds;
-      concealed = map (λ x. count_to as_concealed q k x n) seeds;
-      squelched = map (λ x. count_to as_squelched q k x n) seeds;
-    }
+unfoldable pub rows_of : ℕ → Link → ℕ → List ℤ → List Counts
+rows_of q k n seeds = map (λ x. counts_of q k x n) seeds

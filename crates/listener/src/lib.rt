@@ -2,7 +2,7 @@
 // Inner: every function.
 #![tactic(auto)]
 
-ghost use Rattle.std.specs.Prelude.{◌≡◌, cond, not, ◌&&◌, suc, ◌+◌, ◌≤◌, ◌<◌, length, take, replicate};
+ghost use Rattle.std.specs.Prelude.{◌≡◌, cond, suc, ◌+◌, ◌≤◌, ◌<◌, length, take};
 ghost use Rattle.std.proofs.Math.Seq.{paste};
 ghost use Rattle.generator.specs.Draws.{unsigned};
 ghost use Rattle.listener.specs.Link.{leaving, turned};
@@ -18,19 +18,12 @@ pub struct Link {
     pub leave_bad: u16,
 }
 
+// How many frames a listener received, and how many of those that it lost were concealed and squelched.
 #[derive(Clone, Copy)]
 pub struct Counts {
     pub received: u32,
     pub concealed: u32,
     pub squelched: u32,
-}
-
-// The counts of sixteen listeners.
-#[derive(Clone, Copy)]
-pub struct Rows {
-    pub received: [u32; 16],
-    pub concealed: [u32; 16],
-    pub squelched: [u32; 16],
 }
 
 fn leaving(k: Link, good: bool) -> u32
@@ -66,11 +59,7 @@ fn silent(squelch: u32, losses: u32) -> bool
     requires { losses < 4294967295 }
     ensures { result ≡ silent squelch losses }
 {
-    if squelch > 0 {
-        squelch <= losses + 1
-    } else {
-        false
-    }
+    squelch > 0 && squelch <= losses + 1
 }
 
 // One more, if a frame is heard so.
@@ -78,13 +67,7 @@ fn counted(count: u32, heard: bool) -> u32
     requires { count < 4294967295 }
     ensures { result ≡ count + cond heard 1 0 }
 {
-    if heard { count + 1 } else { count }
-}
-
-fn both(a: bool, b: bool) -> bool
-    ensures { result ≡ a && b }
-{
-    if a { b } else { false }
+    count + u32::from(heard)
 }
 
 // How a listener with a seed hears frames, from set-up on.
@@ -100,8 +83,8 @@ pub fn followed(seed: i32, squelch: u32, k: Link, frames: u32) -> Counts
     for i in 0..frames {
         let quiet = silent(squelch, losses);
         received = counted(received, good);
-        concealed = counted(concealed, both(!good, !quiet));
-        squelched = counted(squelched, both(!good, quiet));
+        concealed = counted(concealed, !good && !quiet);
+        squelched = counted(squelched, !good && quiet);
         losses = row_after(good, losses);
         x = silk_rand(x);
         good = turned(k, x, good);
@@ -113,29 +96,14 @@ pub fn followed(seed: i32, squelch: u32, k: Link, frames: u32) -> Counts
     }
 }
 
-pub fn no_counts() -> [u32; 16]
-    ensures { result ≡ replicate 16 0 }
-{
-    [0; 16]
-}
-
-pub fn sixteen(seeds: [i32; 16], squelch: u32, k: Link, frames: u32) -> Rows
+pub fn sixteen(seeds: [i32; 16], squelch: u32, k: Link, frames: u32) -> [Counts; 16]
     ensures { result ≡ rows_of squelch k frames seeds }
 {
-    let mut received = no_counts();
-    let mut concealed = no_counts();
-    let mut squelched = no_counts();
-    for i in 0..16usize {
-        let c = followed(seeds[i], squelch, k, frames);
-        received[i] = c.received;
-        concealed[i] = c.concealed;
-        squelched[i] = c.squelched;
-    }
-    Rows {
-        received,
-        concealed,
-        squelched,
-    }
+    seeds.map(
+        |x: i32| -> Counts
+            ensures { result ≡ counts_of squelch k x frames }
+        { followed(x, squelch, k, frames) },
+    )
 }
 
 // Sixteen seeds that are lent.
@@ -143,10 +111,8 @@ pub fn seeds_of(lent: &[i32]) -> [i32; 16]
     requires { 16 ≤ length lent.now }
     ensures { result ≡ take 16 lent.now }
 {
-    let mut seeds = [0i32; 16];
-    for i in 0..16usize {
-        seeds[i] = lent[i];
-    }
+    let mut seeds = [0; 16];
+    seeds.copy_from_slice(&lent[..16]);
     seeds
 }
 
@@ -155,7 +121,5 @@ pub fn put_counts(to: &mut [u32], at: usize, counts: [u32; 16])
     requires { at + 16 ≤ length to.old }
     ensures { to.new ≡ paste to.old at counts 16 }
 {
-    for i in 0..16usize {
-        to[at + i] = counts[i];
-    }
+    to[at..at + 16].copy_from_slice(&counts);
 }

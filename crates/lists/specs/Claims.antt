@@ -1,15 +1,15 @@
 -- Demand 3, with document 02, Note 12: what is claimed of every place of a list, and of which lists.
-use Rattle.std.specs.Prelude.{ℕ, suc, ◌≤◌, ◌≡◌, true, false, List, [], ◌∷◌, ◌++◌, ℤ, pos, nat_abs, get_or, length}
+use Rattle.std.specs.Prelude.{Ok, ℕ, suc, ◌≤◌, ◌≡◌, true, false, List, [], ◌∷◌, ◌++◌, ℤ, pos, nat_abs, get_or, length}
 use Rattle.std.specs.Int.{w16}
 use Rattle.std.proofs.Common.{SFits}
 use Rattle.word.specs.Size.{Bounded}
 use Rattle.refusal.specs.First.{◌gives◌, first_of}
-use Rattle.refusal.specs.Refusals.{refusal_number}
-use Rattle.refusal.specs.declared.Refusal.TheVariants.{Nothing, Line}
+use Rattle.refusal.specs.Refusals.{code_of}
+use Rattle.refusal.specs.declared.Refusal.TheVariants.{Line}
 use Rattle.shape.specs.Shape.{is_rate, is_count, rate_of, frame_length}
 use Rattle.decoder.specs.Accepted.{Accepted}
 use Rattle.decoder.specs.Settings.{settings_fit}
-use Rattle.decoder.specs.SetUp.{set_up_refusal, set_up_with}
+use Rattle.decoder.specs.SetUp.{set_up_with}
 use Rattle.decoder.specs.Typed.{Typed, TypedControl, TypedRows, TypedLines}
 use Rattle.decoder.specs.declared.Settings.{Settings}
 use Rattle.decoder.specs.declared.SilkDecoderState.{SilkDecoderState}
@@ -57,10 +57,10 @@ NotForState khz nb answer = (answer ≡ pos 1 → is_rate khz ≡ false) × (ans
 
 -- the call is not refused for the post's own history
 abbrev pub HistoryKept : Place → Type 0
-HistoryKept t = NotForState t.call.rate t.call.subframes (pos (refusal_number (frame_refusal t.state t.call)))
+HistoryKept t = NotForState t.call.rate t.call.subframes (pos (code_of (frame_refusal t.state t.call)))
 
 abbrev pub Played : Place → Type 0
-Played t = refusal_number (frame_refusal t.state t.call) ≡ 0
+Played t = code_of (frame_refusal t.state t.call) ≡ 0
 
 -- the concealed samples of a lost frame, by demand 2's definition and before noise
 abbrev pub concealed_at : Place → List ℤ
@@ -85,8 +85,8 @@ NotLoud Row t = t.call.frame ≡ Lost → Played t → Row t.losses → Bounded 
 -- first half: in every list from a set-up no call is refused for the post's own history, whatever its settings and whichever shapes come
 abbrev pub FirstHalf : Type 0
 FirstHalf =
-    (khz nb : ℤ) (v : Settings) (xs : List Call) → set_up_refusal khz nb v ≡ Nothing → TypedCalls xs
-    → Every HistoryKept (places (set_up_with khz nb v).state xs)
+    (khz nb : ℤ) (v : Settings) (s : SilkDecoderState) (xs : List Call) → set_up_with khz nb v ≡ Ok s → TypedCalls xs
+    → Every HistoryKept (places s xs)
 
 -- in every list from an accepted state a lost frame with such losses before it is quiet
 abbrev pub QuietAfter : (Losses → Type 0) → Type 0
@@ -103,13 +103,13 @@ QuietSooner = QuietAfter OrdinaryRow
 -- in every list from a set-up the losses that count are those that the state counts
 abbrev pub LossesHeld : Type 0
 LossesHeld =
-    (khz nb : ℤ) (v : Settings) (xs : List Call) → set_up_refusal khz nb v ≡ Nothing → TypedCalls xs
-    → Every (λ t. t.state.loss_cnt ≡ pos t.losses.count) (places (set_up_with khz nb v).state xs)
+    (khz nb : ℤ) (v : Settings) (s : SilkDecoderState) (xs : List Call) → set_up_with khz nb v ≡ Ok s → TypedCalls xs
+    → Every (λ t. t.state.loss_cnt ≡ pos t.losses.count) (places s xs)
 
 -- of a received frame rows 5 to 9 don't apply at its shape, and it is lent 5rn pulses; a lost one meets neither
 abbrev pub Described : Frame → Call → Type 0
 Described (Received q) x =
-    (first_of (param_rows (shape_at x) q x.control ++ (line_row (shape_at x) x.lines gives Line) ∷ []) ≡ Nothing)
+    (first_of (param_rows (shape_at x) q x.control ++ (line_row (shape_at x) x.lines gives Line) ∷ []) ≡ Ok tt)
     × (frame_length (shape_at x) ≤ length x.pulses)
 Described Lost x = Unit {0}
 
@@ -123,9 +123,9 @@ pub record Playable (x : Call) : Type 0 where
 -- of up to 2,147,483,647 such frames from a set-up, whatever its settings and their shapes, each is played
 abbrev pub FramesPlayed : Type 0
 FramesPlayed =
-    (khz nb : ℤ) (v : Settings) (xs : List Call) → set_up_refusal khz nb v ≡ Nothing → TypedCalls xs
+    (khz nb : ℤ) (v : Settings) (s : SilkDecoderState) (xs : List Call) → set_up_with khz nb v ≡ Ok s → TypedCalls xs
     → length xs ≤ 2147483647 → Every Playable xs
-    → Every Played (places (set_up_with khz nb v).state xs)
+    → Every Played (places s xs)
 
 -- neither half is empty: before the k-th of such frames that are lost, counted from 0, there count k losses, with a filter of zeros at the first
 abbrev pub LossesPlayed : Type 0
@@ -133,4 +133,5 @@ LossesPlayed =
     (khz nb : ℤ) (v : Settings) (xs : List Call) → is_rate khz ≡ true → is_count nb ≡ true → settings_fit v ≡ true
     → length xs ≤ 2147483647 → TypedCalls xs
     → Every (λ x. (x.frame ≡ Lost) × Playable x) xs
-    → Numbered (λ k t. Played t × (t.losses ≡ record { count = k; held = 0 })) 0 (places (set_up_with khz nb v).state xs)
+    → (s : SilkDecoderState) × (set_up_with khz nb v ≡ Ok s)
+    × Numbered (λ k t. Played t × (t.losses ≡ record { count = k; held = 0 })) 0 (places s xs)

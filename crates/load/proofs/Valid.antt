@@ -11,7 +11,7 @@ use mir.Val.{SFits}
 use Rattle.word.proofs.Parts.{add_parts}
 use Rattle.word.proofs.Sizes.{abs-add, abs_le}
 use Rattle.refusal.specs.First.{first_of}
-use Rattle.refusal.specs.declared.Refusal.TheVariants.{Nothing}
+use Rattle.std.specs.Prelude.{Ok}
 use Rattle.refusal.proofs.Clear.{passed}
 use Rattle.shape.specs.Shape.{Shape, shape, order_of, rate_of}
 use Rattle.shape.proofs.Shapes.{rate_le, count_le, order_le}
@@ -126,9 +126,9 @@ module _ (x : ℤ) (p : Shape) (few : p.subframes ≤ 4) (most : order_of p.rate
   line_clear =
       no_row _ (all_between_back 0 32767 (picks (pos 0) 32768 x 66 16) (order_of p.rate) (λ i l. picks-between 0 32768 x 66 16 i (omega arith) (omega (arith, most, l))))
 
-  drawn-clear : first_of (description_rows p (params_of x) (control_of x p.rate) (lines_of x)) ≡ Nothing
+  drawn-clear : first_of (description_rows p (params_of x) (control_of x p.rate) (lines_of x)) ≡ Ok tt
   drawn-clear =
-      passed (description_rows p (params_of x) (control_of x p.rate) (lines_of x)) Nothing
+      passed (description_rows p (params_of x) (control_of x p.rate) (lines_of x))
       (signal-clear, (gain-clear, (lag-clear, (taps-clear, (line_clear, tt)))))
 
 pub drawn_valid : DrawnValid

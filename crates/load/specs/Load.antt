@@ -2,7 +2,7 @@
 use Rattle.std.specs.Prelude.{ℕ, ◌+◌, ◌*◌, Bool, not, cond, List, [], ◌∷◌, ltb, ℤ, pos, negsuc}
 use Rattle.word.specs.Int.{eq_ℤ}
 use Rattle.refusal.specs.First.{◌gives◌, first_of}
-use Rattle.refusal.specs.declared.Refusal.{Refusal}
+use Rattle.refusal.specs.Refusals.{Judged}
 use Rattle.refusal.specs.declared.Refusal.TheVariants.{Rate, Size, Length}
 use Rattle.shape.specs.Shape.{is_rate, is_count}
 use Rattle.decoder.specs.Signals.{signal_of}
@@ -59,6 +59,6 @@ module _ (x : ℤ) where
   frame_of = cond is_received (Received params_of) Lost
 
 -- 1 and 2 where the shape is none, and 12 for a frame's number past the 2,147,483,647 that a post can play
-unfoldable pub load_refusal : ℤ → ℤ → ℕ → Refusal
+unfoldable pub load_refusal : ℤ → ℤ → ℕ → Judged
 load_refusal khz nb i =
     first_of ((not (is_rate khz) gives Rate) ∷ (not (is_count nb) gives Size) ∷ (ltb 2147483646 i gives Length) ∷ [])

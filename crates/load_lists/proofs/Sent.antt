@@ -6,11 +6,10 @@ use mathlib.Core.List.{List, [], ◌∷◌}
 use native.Mathlib.Omega.{arith}
 use lib.IntN.{ℤ}
 use lib.ListN.{length}
-use Rattle.refusal.specs.Refusals.{refusal_number}
 use Rattle.shape.specs.Shape.{shape, is_rate, is_count, frame_length}
 use Rattle.shape.proofs.Shapes.{frame_le}
+use Rattle.decoder.proofs.SetUps.{set_up-fresh}
 use Rattle.lists.specs.Claims.{Every, none, then, TypedCall, TypedCalls, Playable}
-use Rattle.lists.proofs.History.{set_up-shaped}
 use Rattle.lists.proofs.Plays.{frames-played}
 use Rattle.load.specs.Load.{before, is_received, pulses_of}
 use Rattle.load.proofs.Valid.{drawn_valid, drawn_typed}
@@ -51,11 +50,11 @@ module _ (khz nb seed : ℤ) where
     playable received i (then {x} h hs) = then (playable-call (before seed i) (received i) x h) (playable received (suc i) hs)
 
 pub any_losses_lem : AnyLosses
-any_losses_lem received khz nb v seed k i outs e l =
-    let s = set_up-shaped khz nb v (ap refusal_number e) in
+any_losses_lem received khz nb v s seed k i outs e l =
+    let f = set_up-fresh khz nb v s e in
     let x = drawn seed k in
-    frames-played khz nb v (calls_from khz nb x received i outs) e (typed khz nb x received i outs) (rw (as_many khz nb x received i outs) l.few)
-    (playable khz nb x s.0 s.1 received i l.room)
+    frames-played khz nb v s (calls_from khz nb x received i outs) e (typed khz nb x received i outs) (rw (as_many khz nb x received i outs) l.few)
+    (playable khz nb x f.rate f.count received i l.room)
 
 pub load_played : LoadPlayed
-load_played khz nb v seed k i outs e l = any_losses_lem (λ j. is_received (before (drawn seed k) j)) khz nb v seed k i outs e l
+load_played khz nb v s seed k i outs e l = any_losses_lem (λ j. is_received (before (drawn seed k) j)) khz nb v s seed k i outs e l

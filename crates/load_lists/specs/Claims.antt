@@ -1,9 +1,9 @@
 -- Document 02, Note 11: "No frame of a load of at most 2,147,483,647 frames is refused by a post set up for its shape and lent 5rn samples".
-use Rattle.std.specs.Prelude.{ℕ, ◌≤◌, ◌≡◌, Bool, List, ℤ, length}
-use Rattle.refusal.specs.declared.Refusal.TheVariants.{Nothing}
+use Rattle.std.specs.Prelude.{Ok, ℕ, ◌≤◌, ◌≡◌, Bool, List, ℤ, length}
 use Rattle.shape.specs.Shape.{shape, frame_length}
-use Rattle.decoder.specs.SetUp.{set_up_refusal, set_up_with}
+use Rattle.decoder.specs.SetUp.{set_up_with}
 use Rattle.decoder.specs.declared.Settings.{Settings}
+use Rattle.decoder.specs.declared.SilkDecoderState.{SilkDecoderState}
 use Rattle.decode_frame.specs.Call.{Call}
 use Rattle.lists.specs.Lists.{places}
 use Rattle.lists.specs.Claims.{Every, Played}
@@ -18,8 +18,8 @@ pub record Lent (khz nb : ℤ) (outs : List (List ℤ)) : Type 0 where
 -- frames that a load sends are played by a post that was set up for their shape, whatever its settings
 abbrev pub AllPlayed : (ℤ → ℤ → ℤ → ℕ → List (List ℤ) → List Call) → Type 0
 AllPlayed sent =
-    (khz nb : ℤ) (v : Settings) (seed : ℤ) (k i : ℕ) (outs : List (List ℤ)) → set_up_refusal khz nb v ≡ Nothing → Lent khz nb outs
-    → Every Played (places (set_up_with khz nb v).state (sent khz nb (drawn seed k) i outs))
+    (khz nb : ℤ) (v : Settings) (s : SilkDecoderState) (seed : ℤ) (k i : ℕ) (outs : List (List ℤ)) → set_up_with khz nb v ≡ Ok s → Lent khz nb outs
+    → Every Played (places s (sent khz nb (drawn seed k) i outs))
 
 -- with the load's own losses, from any draw k and any frame i behind it
 abbrev pub LoadPlayed : Type 0

@@ -136,7 +136,7 @@ pub fn silk_rshift_round64(a: i64, shift: i32) -> i64
 pub fn silk_clz32(a: i32) -> i32
     ensures { result ≡ pos (clz32 a) }
 {
-    u32::leading_zeros(bits32(a)) as i32
+    bits32(a).leading_zeros() as i32
 }
 
 #[derive(Clone, Copy)]
@@ -149,7 +149,7 @@ fn frac_q7(x: i32) -> i32
     ensures { result ≡ pos (frac_q7 x) }
 {
     let b = bits32(x);
-    let w = (b as u64) << u32::leading_zeros(b);
+    let w = u64::from(b) << b.leading_zeros();
     (w / 16777216 % 128) as i32
 }
 

@@ -9,8 +9,7 @@ use borrow.Author.Tests.{ltb-false, eqb-true, not-false}
 use lib.Dec.{ltb, eqb}
 use lib.IntN.{ℤ}
 use lib.ListN.{length}
-use Rattle.refusal.specs.Refusals.{refusal_number}
-use Rattle.refusal.specs.declared.Refusal.TheVariants.{Nothing}
+use Rattle.refusal.specs.Refusals.{code_of}
 use Rattle.refusal.proofs.Clear.{clear}
 use Rattle.edition.specs.Edition.{is_edition}
 use Rattle.nlsf.specs.Lines.{negative_line}
@@ -31,9 +30,9 @@ order_fits n m d e =
     let b = neither (not (eqb d 10) && not (eqb d 16)) (ltb n d) a.0 in
     (one_of d b.0, ltb-false n d b.1, ltb-false m d a.1)
 
-pub accepted : (n : ℕ) (lines : List ℤ) (d : ℕ) (e : ℤ) → refusal_number (nlsf2a_refusal n lines d e) ≡ 0 → ((d ≡ 10) ⊎ (d ≡ 16)) × (d ≤ n) × (d ≤ length lines) × (negative_line lines d ≡ false) × (is_edition e ≡ true)
+pub accepted : (n : ℕ) (lines : List ℤ) (d : ℕ) (e : ℤ) → code_of (nlsf2a_refusal n lines d e) ≡ 0 → ((d ≡ 10) ⊎ (d ≡ 16)) × (d ≤ n) × (d ≤ length lines) × (negative_line lines d ≡ false) × (is_edition e ≡ true)
 unfolding nlsf2a_refusal
 accepted n lines d e h =
-    let r = (clear _ Nothing refl h).0 in
+    let r = clear _ h in
     let o = order_fits n (length lines) d r.0 in
     (o.0, o.1, o.2, r.1.0, not-false (is_edition e) r.1.1.0)

@@ -11,7 +11,9 @@ use lib.IntN.{ℤ, pos, negsuc, nat_abs, neg_ℤ, ◌+ℤ◌, ◌-ℤ◌, ◌*�
 use lib.ListN.{get_or}
 use lib.Signed.{lt_z, non_neg, mag}
 use mir.Syntax.{w16, w32}
-use mir.Val.{SFits}
+use mir.Val.{SFits, to_z, of_z}
+use mir.Facts.{to_z-of_z}
+use Rattle.word.proofs.Parts.{eq_parts, sub_parts_ℤ}
 use Rattle.word.proofs.Rows.{neither}
 use Rattle.word.specs.Int.{wrap32}
 use Rattle.word.specs.Size.{Bounded}
@@ -35,6 +37,21 @@ within_bounded M (x ∷ xs) e (suc k) = within_bounded M xs (both (leb (nat_abs 
 pub half_le : (i : ℕ) → nat_abs (get_or lsf_cos_half i (pos 0)) ≤ 8192
 unfolding lsf_cos_half within
 half_le i = within_bounded 8192 lsf_cos_half refl i
+
+-- an entry, and minus an entry, of 16 bits
+pub entry_kept : (x : ℤ) → nat_abs x ≤ 8192 → to_z w16 (of_z w16 x) ≡ x
+entry_kept x h = to_z-of_z {w = w16} (abs-fits x (omega arith))
+
+minus : (x : ℤ) → (pos 0 -ℤ x) ≡ neg_ℤ x
+minus (pos zero) = refl
+minus (pos (suc n)) = eq_parts (pos 0 -ℤ pos (suc n)) (negsuc n) (omega (arith, sub_parts_ℤ (pos 0) (pos (suc n))))
+minus (negsuc n) = eq_parts (pos 0 -ℤ negsuc n) (pos (suc n)) (omega (arith, sub_parts_ℤ (pos 0) (negsuc n)))
+
+pub minus_fits : (x : ℤ) → nat_abs x ≤ 8192 → SFits w16 (pos 0 -ℤ to_z w16 (of_z w16 x))
+minus_fits x h = rw (entry_kept x h, minus x) (abs-fits (neg_ℤ x) (omega (arith, abs_neg x)))
+
+pub minus_kept : (x : ℤ) → nat_abs x ≤ 8192 → to_z w16 (of_z w16 (pos 0 -ℤ to_z w16 (of_z w16 x))) ≡ neg_ℤ x
+minus_kept x h = rw (entry_kept x h, minus x) (to_z-of_z {w = w16} (abs-fits (neg_ℤ x) (omega (arith, abs_neg x))))
 
 pub lsf_cos_le : (i : ℕ) → nat_abs (lsf_cos i) ≤ 8192
 unfolding lsf_cos

@@ -1,5 +1,5 @@
 -- An array whose first places hold a list, and the rest of another.
-use Prim.Native.Nat.{ℕ, suc, ◌+◌, ◌-◌, ◌<◌, ◌≤◌, ◌^◌}
+use Prim.Native.Nat.{ℕ, suc, ◌+◌, ◌<◌, ◌≤◌, ◌^◌}
 use mathlib.Core.Path.{◌≡◌, sym, ap, ◌∙◌}
 use mathlib.Core.List.{List, ◌∷◌, ◌++◌, map, append-nil}
 use native.Mathlib.Numerals.{add-one}
@@ -33,15 +33,14 @@ module _ (f : ℕ → ℤ) (p : List ℤ) where
   abbrev table : List ℤ
   table = tabulate (length p) f
 
-  pub back_start : 0 < length p → p ≡ take (length p - 1 + 1) p ++ drop (length p - 1 + 1) table
-  back_start h =
-      let e : length p - 1 + 1 ≡ length p = omega arith in
-      sym (rw (e, take-length p, drop_of_length-le table {i = length p} (omega (arith, length-tabulate (length p) f)), append-nil p))
+  pub back_start : p ≡ take (length p) p ++ drop (length p) table
+  back_start =
+      sym (rw (take-length p, drop_of_length-le table {i = length p} (omega (arith, length-tabulate (length p) f)), append-nil p))
 
-  pub back_more : (j : ℕ) → j < length p → set (take (j + 1) p ++ drop (j + 1) table) j (f j) ≡ take j p ++ drop j table
-  back_more j h =
+  pub back_more : (n j : ℕ) → n ≡ j + 1 → j < length p → set (take n p ++ drop n table) j (f j) ≡ take j p ++ drop j table
+  back_more n j e h =
       let d : get_or table j (pos 0) ∷ drop (suc j) table ≡ drop j table = sym (drop-cons table j (pos 0) (rw (length-tabulate (length p) f) h)) in
-      rw (add-one, take-suc p j (pos 0) h, append_snoc (take j p) (get_or p j (pos 0)) (drop (suc j) table), set_at (take j p) (get_or p j (pos 0)) (drop (suc j) table) (f j) j (length-take-le j p (omega arith)), ← get_or-tabulate (length p) f j h, d)
+      rw (e, add-one, take-suc p j (pos 0) h, append_snoc (take j p) (get_or p j (pos 0)) (drop (suc j) table), set_at (take j p) (get_or p j (pos 0)) (drop (suc j) table) (f j) j (length-take-le j p (omega arith)), ← get_or-tabulate (length p) f j h, d)
 
   pub back_ends : f 0 ≡ get_or p 0 (pos 0) → 0 < length p → take 1 p ++ drop 1 table ≡ table
   back_ends e h =

@@ -4,8 +4,7 @@ use Rattle.word.specs.Int.{eq_ℤ}
 use Rattle.stability.specs.Stability.{stability, inverse_gain}
 use Rattle.edition.specs.Edition.{is_edition}
 use Rattle.refusal.specs.First.{◌gives◌, first_of}
-use Rattle.refusal.specs.Refusals.{if_accepted}
-use Rattle.refusal.specs.declared.Refusal.{Refusal}
+use Rattle.refusal.specs.Refusals.{Judged, if_accepted}
 use Rattle.refusal.specs.declared.Refusal.TheVariants.{Line, Order, Edition}
 use Rattle.nlsf.specs.Lines.{negative_line, lpc_coefficients}
 use Rattle.nlsf.specs.Expand.{bwexpander32}
@@ -34,7 +33,7 @@ abbrev pub order_refused : ℕ → ℕ → ℕ → Bool
 order_refused n m d = not (eqb d 10) && not (eqb d 16) || ltb n d || ltb m d
 
 -- why the filter from lines refuses a slice of n numbers for the coefficients: row 13 before row 9, then row 22
-unfoldable pub nlsf2a_refusal : ℕ → List ℤ → ℕ → ℤ → Refusal
+unfoldable pub nlsf2a_refusal : ℕ → List ℤ → ℕ → ℤ → Judged
 nlsf2a_refusal n lines d e =
     first_of ((order_refused n (length lines) d gives Order) ∷ (negative_line lines d gives Line) ∷ (not (is_edition e) gives Edition) ∷ [])
 

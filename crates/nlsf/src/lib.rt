@@ -9,7 +9,7 @@ ghost use Rattle.std.specs.Int.Signed.{lt_z};
 ghost use Rattle.word.specs.Int.{sat16};
 ghost use Rattle.word.specs.Tabulate.{tabulate};
 ghost use Rattle.edition.specs.Edition.{newer};
-ghost use Rattle.nlsf.specs.Table.{lsf_cos_half, lsf_cos};
+ghost use Rattle.nlsf.specs.Table.{lsf_cos};
 ghost use Rattle.nlsf.specs.Values.{LsfCosKept};
 ghost use Rattle.nlsf.specs.Lines.{negative_line, lsf_cosine, ordering, cosines, times_factor, poly, even_term, odd_term, lpc_coefficient, lpc_coefficients};
 ghost use Rattle.nlsf.specs.Expand.{next_factor, bwexpander32};
@@ -18,7 +18,7 @@ ghost use Rattle.nlsf.specs.Filter.{round_chirp, stabilised, nlsf2a, nlsf2a_refu
 
 use edition::{NEWER, is_edition};
 use macros::{silk_rshift_round, silk_smulww};
-use refusal::Refusal;
+use refusal::{Refusal, refuse_if};
 use stability::{inverse_pred_gain, mul_q};
 use tables::{ORDERING10, ORDERING16, SILK_LSF_COS_TAB_FIX_Q12};
 use word::{abs32, add32, low16, mul32, neg32, sat16, shl32, sub32, wide16};
@@ -30,21 +30,15 @@ struct Peak {
     place: usize,
 }
 
-pub fn lsf_cos_half() -> [i16; 65]
-    ensures { result ≡ lsf_cos_half }
-{
-    SILK_LSF_COS_TAB_FIX_Q12
-}
-
 // Entry i of the table, above place 64 by its rule.
-pub fn lsf_cos(tab: &[i16; 65], i: usize) -> i16
-    requires { (tab.now ≡ lsf_cos_half) × (i ≤ 128) }
+pub fn lsf_cos(i: usize) -> i16
+    requires { i ≤ 128 }
     ensures { result ≡ lsf_cos i }
 {
     if i > 64 {
-        return low16(neg32(wide16(tab[128 - i])));
+        return -SILK_LSF_COS_TAB_FIX_Q12[128 - i];
     }
-    tab[i]
+    SILK_LSF_COS_TAB_FIX_Q12[i]
 }
 
 // Every caller sees the 129 values that it saw while all of them stood in the table.
@@ -61,14 +55,14 @@ fn unsigned(line: i16) -> usize
 }
 
 // Twice the cosine of a line.
-fn lsf_cosine(tab: &[i16; 65], n: usize) -> i32
-    requires { (tab.now ≡ lsf_cos_half) × (n < 32768) }
+fn lsf_cosine(n: usize) -> i32
+    requires { n < 32768 }
     ensures { result ≡ lsf_cosine n }
 {
     let f_int = n / 256;
     let f_frac = (n % 256) as i32;
-    let cos_val = wide16(lsf_cos(tab, f_int));
-    let delta = sub32(wide16(lsf_cos(tab, f_int + 1)), cos_val);
+    let cos_val = wide16(lsf_cos(f_int));
+    let delta = sub32(wide16(lsf_cos(f_int + 1)), cos_val);
     silk_rshift_round(add32(shl32(cos_val, 8), mul32(delta, f_frac)), 4)
 }
 
@@ -84,20 +78,14 @@ fn ordering(d: usize, k: usize) -> usize
     }
 }
 
-fn zeros16() -> [i32; 16]
-    ensures { result ≡ replicate 16 (pos 0) }
-{
-    [0; 16]
-}
-
 // One of the first d lines is negative.
 fn negative_line(nlsf: &[i16], d: usize) -> bool
     requires { d ≤ length nlsf.now }
     ensures { result ≡ negative_line nlsf.now d }
 {
     let mut found = false;
-    for k in 0..d {
-        found = found | (nlsf[k] < 0);
+    for line in &nlsf[..d] {
+        found = found | (*line < 0);
     }
     found
 }
@@ -107,11 +95,10 @@ fn cosines(nlsf: &[i16], d: usize) -> [i32; 16]
     requires { ((d ≡ 10) ⊎ (d ≡ 16)) × (d ≤ length nlsf.now) × (negative_line nlsf.now d ≡ false) }
     ensures { result ≡ cosines nlsf.now d d }
 {
-    let tab = lsf_cos_half();
-    let mut c = zeros16();
-    for k in 0..d {
+    let mut c = [0; 16];
+    for (k, line) in nlsf[..d].iter().enumerate() {
         let place = ordering(d, k);
-        c[place] = lsf_cosine(&tab, unsigned(nlsf[k]));
+        c[place] = lsf_cosine(unsigned(*line));
     }
     c
 }
@@ -129,27 +116,19 @@ fn times_factor(f: i32, p: &mut [i32])
     requires { 2 ≤ length p.old }
     ensures { p.new ≡ tabulate (length p.old) (times_factor f p.old) }
 {
-    let mut n = p.len() - 1;
-    while n > 1 {
-        let v = poly_term(f, p, n);
-        p[n] = v;
-        n -= 1;
+    for n in (2..p.len()).rev() {
+        p[n] = poly_term(f, p, n);
     }
     p[1] = sub32(p[1], f);
 }
 
-fn zeros9() -> [i32; 9]
-    ensures { result ≡ replicate 9 (pos 0) }
-{
-    [0; 9]
-}
-
 // The product of dd factors, for the cosines at the places s, s + 2, ..
+// A loop over places, since each turn reads every other cosine and lends a longer front of p.
 fn silk_nlsf2a_find_poly(c: &[i32; 16], s: usize, dd: usize) -> [i32; 9]
     requires { (s ≤ 1) × (1 ≤ dd) × (dd ≤ 8) }
     ensures { result ≡ poly c.now s (dd - 1) ++ drop (dd + 1) (replicate 9 (pos 0)) }
 {
-    let mut p = zeros9();
+    let mut p = [0; 9];
     p[0] = 65536;
     p[1] = neg32(c[s]);
     for k in 0..dd - 1 {
@@ -161,6 +140,7 @@ fn silk_nlsf2a_find_poly(c: &[i32; 16], s: usize, dd: usize) -> [i32; 9]
     p
 }
 
+#[tactic(auto, using(stability::proofs::Kept::words), unfolding(crate::specs::Lines::even_term))]
 fn even_term(p: &[i32; 9], k: usize) -> i32
     requires { k ≤ 7 }
     ensures { result ≡ even_term p.now k }
@@ -168,6 +148,7 @@ fn even_term(p: &[i32; 9], k: usize) -> i32
     add32(p[k + 1], p[k])
 }
 
+#[tactic(auto, using(stability::proofs::Kept::words), unfolding(crate::specs::Lines::odd_term))]
 fn odd_term(q: &[i32; 9], k: usize) -> i32
     requires { k ≤ 7 }
     ensures { result ≡ odd_term q.now k }
@@ -191,9 +172,9 @@ fn lpc_coefficients(p: &[i32; 9], q: &[i32; 9], d: usize) -> [i32; 16]
     requires { (d % 2 ≡ 0) × (d ≤ 16) }
     ensures { result ≡ tabulate d (lpc_coefficient p.now q.now d) ++ drop d (replicate 16 (pos 0)) }
 {
-    let mut a = zeros16();
-    for i in 0..d {
-        a[i] = lpc_coefficient(p, q, d, i);
+    let mut a = [0; 16];
+    for (i, x) in a[..d].iter_mut().enumerate() {
+        *x = lpc_coefficient(p, q, d, i);
     }
     a
 }
@@ -208,8 +189,8 @@ fn silk_bwexpander_32(ar: &mut [i32], chirp: i32)
     ensures { ar.new ≡ bwexpander32 chirp ar.old }
 {
     let mut f = chirp;
-    for i in 0..ar.len() {
-        ar[i] = silk_smulww(f, ar[i]);
+    for x in ar.iter_mut() {
+        *x = silk_smulww(f, *x);
         f = next_factor(chirp, f);
     }
 }
@@ -227,8 +208,8 @@ fn maxabs(a: &[i32]) -> Peak
     ensures { result ≡ maxabs a.now (length a.now) }
 {
     let mut p = Peak { size: 0, place: 0 };
-    for k in 0..a.len() {
-        p = higher(p, abs32(a[k]), k);
+    for (k, x) in a.iter().enumerate() {
+        p = higher(p, abs32(*x), k);
     }
     p
 }
@@ -242,6 +223,7 @@ fn fit_chirp(m: usize, place: usize) -> i32
     sub32(65470, (num / den) as i32)
 }
 
+#[tactic(auto, using(stability::proofs::Kept::words), unfolding(crate::specs::Fit::in_q12))]
 fn in_q12(x: i32) -> i32
     ensures { result ≡ in_q12 x }
 {
@@ -252,8 +234,8 @@ fn rounded(a_q12: &mut [i16], a: &[i32])
     requires { length a_q12.old ≡ length a.now }
     ensures { a_q12.new ≡ rounded a.now }
 {
-    for k in 0..a.len() {
-        a_q12[k] = low16(in_q12(a[k]));
+    for (k, x) in a.iter().enumerate() {
+        a_q12[k] = low16(in_q12(*x));
     }
 }
 
@@ -261,10 +243,10 @@ fn saturated(a_q12: &mut [i16], a: &mut [i32])
     requires { length a_q12.old ≡ length a.old }
     ensures { record { q12 = a_q12.new; q17 = a.new } ≡ saturated a.old }
 {
-    for k in 0..a.len() {
-        let x = sat16(in_q12(a[k]));
-        a_q12[k] = x;
-        a[k] = shl32(wide16(x), 5);
+    for (k, x) in a.iter_mut().enumerate() {
+        let y = sat16(in_q12(*x));
+        a_q12[k] = y;
+        *x = shl32(wide16(y), 5);
     }
 }
 
@@ -273,12 +255,7 @@ fn chirp_of(m: i32, place: usize) -> i32
     requires { (lt_z (pos 32767) m ≡ true) × (place < 16) }
     ensures { result ≡ fit_chirp (min (nat_abs m) 163838) place }
 {
-    let size = m as usize;
-    if size < 163838 {
-        fit_chirp(size, place)
-    } else {
-        fit_chirp(163838, place)
-    }
+    fit_chirp((m as usize).min(163838), place)
 }
 
 // In place on the coefficients in Q17, and into those in Q12.
@@ -332,6 +309,7 @@ fn from_lines(nlsf: &[i16], d: usize) -> [i32; 16]
 }
 
 // Coefficients in Q17 made to fit 16 bits and stable.
+#[tactic(auto, using(stability::proofs::Kept::words))]
 fn settle(a_q12: &mut [i16], a: &mut [i32], edition: i32)
     requires { (length a_q12.old ≡ length a.old) × (1 ≤ length a.old) × (length a.old ≤ 16) }
     ensures { record { q12 = a_q12.new; q17 = a.new } ≡ stabilised edition 16 0 (lpc_fit 10 a.old) }
@@ -350,31 +328,35 @@ pub fn nlsf2a(a_q12: &mut [i16], nlsf: &[i16], d: usize, edition: i32)
 }
 
 // Why the filter from lines refuses, with n places for the coefficients.
-fn refusal_of(n: usize, nlsf: &[i16], d: usize, edition: i32) -> Refusal
+#[tactic(auto, unfolding(crate::specs::Filter::nlsf2a_refusal, refusal::specs::First::first_of))]
+fn judge(n: usize, nlsf: &[i16], d: usize, edition: i32) -> Result<(), Refusal>
     ensures { result ≡ nlsf2a_refusal n nlsf.now d edition }
 {
-    if (d != 10) & (d != 16) | (n < d) | (nlsf.len() < d) {
-        return Refusal::Order;
-    }
-    let other = refusal::first(!is_edition(edition), Refusal::Edition, Refusal::Nothing);
-    refusal::first(negative_line(nlsf, d), Refusal::Line, other)
+    refuse_if(
+        (d != 10) & (d != 16) | (n < d) | (nlsf.len() < d),
+        Refusal::Order,
+    )?;
+    refuse_if(negative_line(nlsf, d), Refusal::Line)?;
+    refuse_if(!is_edition(edition), Refusal::Edition)
 }
 
 // The filter from lines as a call under an edition: refused, it writes nothing.
-pub fn silk_nlsf2a_under(a_q12: &mut [i16], nlsf: &[i16], d: usize, edition: i32) -> Refusal
+pub fn silk_nlsf2a_under(
+    a_q12: &mut [i16],
+    nlsf: &[i16],
+    d: usize,
+    edition: i32,
+) -> Result<(), Refusal>
     ensures { (result ≡ nlsf2a_refusal (length a_q12.old) nlsf.now d edition)
         × (a_q12.new ≡ nlsf2a_of a_q12.old nlsf.now d edition) }
 {
-    let no = refusal_of(a_q12.len(), nlsf, d, edition);
-    if refusal::number(no) != 0 {
-        return no;
-    }
+    judge(a_q12.len(), nlsf, d, edition)?;
     nlsf2a(&mut a_q12[..d], nlsf, d, edition);
-    no
+    Ok(())
 }
 
 // The same where no edition is named.
-pub fn silk_nlsf2a(a_q12: &mut [i16], nlsf: &[i16], d: usize) -> Refusal
+pub fn silk_nlsf2a(a_q12: &mut [i16], nlsf: &[i16], d: usize) -> Result<(), Refusal>
     ensures { (result ≡ nlsf2a_refusal (length a_q12.old) nlsf.now d newer)
         × (a_q12.new ≡ nlsf2a_of a_q12.old nlsf.now d newer) }
 {

@@ -1,6 +1,5 @@
 -- A record played, and the count of frames.
-use Rattle.std.specs.Prelude.{ℕ, ◌+◌, List, cond, eqb, ℤ, pos, replicate}
-use Rattle.refusal.specs.Refusals.{refusal_number}
+use Rattle.std.specs.Prelude.{ℕ, ◌+◌, List, cond, eqb, ℤ, pos, replicate, Result, Ok, Err}
 use Rattle.refusal.specs.declared.Refusal.{Refusal}
 use Rattle.decoder.specs.declared.SilkDecoderState.{SilkDecoderState}
 use Rattle.decode_frame.specs.Call.{Call, frame_call}
@@ -12,7 +11,7 @@ use Rattle.record.specs.Record.{frame_in, control_in, rows_in, lines_in, pulses_
 use Rattle.play.specs.declared.Sound.{Sound}
 use Rattle.play.specs.declared.Tally.{Tally}
 use Rattle.play.specs.declared.Ended.{Ended}
-use Rattle.play.specs.declared.Ended.TheVariants.{Received, Concealed, Refused, Cut, Kind, Unwritten}
+use Rattle.play.specs.declared.Ended.TheVariants.{Received, Concealed, Refused}
 
 -- the largest frame, silent
 abbrev pub silent : List ℤ
@@ -24,21 +23,21 @@ module _ (s : SilkDecoderState) (rate subframes : ℤ) (b : List ℕ) where
   abbrev pub call_in : Call
   call_in = frame_call rate subframes (frame_in b) (control_in b) (rows_in b) (lines_in b) (pulses_in b) silent
 
-  unfoldable pub answer : Answer
+  unfoldable pub answer : Result Answer Refusal
   answer = frame_answer s call_in
 
-  -- a refused frame leaves the state and the silence
+  -- a refused frame leaves the silence
   unfoldable pub sound_of : Sound
   sound_of =
       record {
-        refusal = answer.refusal;
-        state = answer.state;
+        answer = answer;
         bytes = packed w16 (frame_output s call_in) 320;
       }
 
--- what became of a record of a kind whose frame was answered by a refusal or by none
-abbrev pub how_of : ℕ → Refusal → Ended
-how_of kind r = cond (eqb (refusal_number r) 0) (cond (eqb kind 0) Concealed Received) (Refused r)
+-- what became of a frame of a kind that was answered so
+abbrev pub how_of : ℕ → Result Answer Refusal → Ended
+how_of kind (Ok a) = cond (eqb kind 0) Concealed Received
+how_of kind (Err r) = Refused r
 
 -- the frames counted
 abbrev pub total : Tally → ℕ
@@ -49,6 +48,3 @@ abbrev pub counted_of : Tally → Ended → Tally
 counted_of t Received = record { received = t.received + 1; concealed = t.concealed; refused = t.refused }
 counted_of t Concealed = record { received = t.received; concealed = t.concealed + 1; refused = t.refused }
 counted_of t (Refused r) = record { received = t.received; concealed = t.concealed; refused = t.refused + 1 }
-counted_of t Cut = t
-counted_of t (Kind k) = t
-counted_of t Unwritten = t

@@ -2,23 +2,24 @@
 // The report has the stream's rate and seconds; its last line counts the frames, if the whole stream was played, else it says why not.
 #![tactic(auto)]
 
-ghost use Rattle.std.specs.Prelude.{◌≡◌, ◌+◌, ◌≤◌, ◌<◌, replicate};
+ghost use Rattle.std.specs.Prelude.{◌≡◌, ◌+◌, ◌≤◌, ◌<◌};
 ghost use Rattle.play.specs.Play.{sound_of, how_of, total, counted_of};
 
 use decode_frame::silk_decode_frame;
-use decoder::{Settings, SilkDecoderState, set_up_with};
+use decoder::{Answer, Settings, SilkDecoderState, set_up_with};
 use edition::NEWER;
+use input::read_full;
 use le::signed_byte;
 use record::{control_in, frame_in, lines_in, pulses_in, rows_in};
 use refusal::Refusal;
-use std::io::{self, ErrorKind, Read, Write};
-use stream::{Head, Opened, no_bytes, read_header, samples_bytes, silence, wav_header};
+use std::fmt;
+use std::io::{self, Read, Write};
+use stream::{Head, Unplayed, read_header, samples_bytes, silence, wav_header};
 
-// A record's frame: why it is refused, the new state, and its samples as bytes.
+// What a record's frame is answered by, and its samples as bytes.
 #[derive(Clone, Copy)]
 struct Sound {
-    refusal: Refusal,
-    state: SilkDecoderState,
+    answer: Result<Answer, Refusal>,
     bytes: [u8; 640],
 }
 
@@ -31,27 +32,32 @@ fn played(s: SilkDecoderState, rate: i32, subframes: i32, b: &[u8; 817]) -> Soun
     let lines = lines_in(b);
     let pulses = pulses_in(b);
     let mut xq = silence();
-    let a = silk_decode_frame(s, rate, subframes, frame, c, rows, lines, &pulses, &mut xq);
-    let refusal = a.refusal;
-    let state = a.state;
+    let answer = silk_decode_frame(s, rate, subframes, frame, c, rows, lines, &pulses, &mut xq);
     let bytes = samples_bytes(&xq);
-    Sound {
-        refusal,
-        state,
-        bytes,
-    }
+    Sound { answer, bytes }
 }
 
-// What became of a record: its frame was played, concealed or refused; or the file ends within it, its kind is unknown,
-// or its samples could not be written.
+// What became of a record's frame.
 #[derive(Clone, Copy)]
 enum Ended {
     Received,
     Concealed,
     Refused(Refusal),
-    Cut,
-    Kind(u8),
-    Unwritten,
+}
+
+fn how(kind: u8, answer: Result<Answer, Refusal>) -> Ended
+    ensures { result ≡ how_of kind answer }
+{
+    match answer {
+        Err(refusal) => Ended::Refused(refusal),
+        Ok(_) => {
+            if kind == 0 {
+                Ended::Concealed
+            } else {
+                Ended::Received
+            }
+        }
+    }
 }
 
 #[derive(Clone, Copy)]
@@ -67,186 +73,59 @@ fn counted(t: Tally, e: Ended) -> Tally
 {
     let mut new = t;
     match e {
-        Ended::Received => {
-            new.received = t.received + 1;
-        }
-        Ended::Concealed => {
-            new.concealed = t.concealed + 1;
-        }
-        Ended::Refused(_) => {
-            new.refused = t.refused + 1;
-        }
-        Ended::Cut => {}
-        Ended::Kind(_) => {}
-        Ended::Unwritten => {}
+        Ended::Received => new.received += 1,
+        Ended::Concealed => new.concealed += 1,
+        Ended::Refused(_) => new.refused += 1,
     }
     new
 }
 
-// A record's bytes but for the samples that end it; of a lost frame's, the kind alone.
+// Why a record isn't read: the file ends within it, or its kind is unknown.
 #[derive(Clone, Copy)]
-struct Record {
-    bytes: [u8; 817],
-    whole: bool,
+enum Unread {
+    Cut(u32),
+    Kind(u32, u8),
 }
 
-fn blank() -> [u8; 817]
-    ensures { result ≡ replicate 817 0 }
-{
-    [0; 817]
+impl fmt::Display for Unread {
+    fn fmt<W: fmt::Write>(&self, f: &mut fmt::Formatter<W>) -> fmt::Result {
+        match self {
+            Unread::Cut(i) => write!(f, "the file ends within record {i}"),
+            Unread::Kind(i, kind) => write!(
+                f,
+                "record {i} has the kind {kind}; known are 0 (lost) and 1 (received)"
+            ),
+        }
+    }
 }
 
 // Whether the input had the bytes to fill the buffer; else it ended before.
-fn read_whole(input: &mut impl Read, buffer: &mut [u8]) -> io::Result<bool> {
-    match input.read_exact(buffer) {
-        Ok(()) => Ok(true),
-        Err(e) => {
-            if e.kind() == ErrorKind::UnexpectedEof {
-                Ok(false)
-            } else {
-                Err(e)
-            }
-        }
-    }
+fn is_filled(input: &mut impl Read, buffer: &mut [u8]) -> io::Result<bool> {
+    Ok(read_full(input, buffer)? == buffer.len())
 }
 
-fn read_record(input: &mut impl Read, kind: u8, n: usize) -> io::Result<Record>
+// The bytes of record i but for the samples that end it, n bytes, which are passed over; of a lost frame's, the kind alone.
+fn next_record(input: &mut impl Read, i: u32, n: usize) -> io::Result<Result<[u8; 817], Unread>>
     requires { n ≤ 640 }
 {
-    let mut bytes = blank();
-    if kind == 0 {
-        return Ok(Record { bytes, whole: true });
+    let mut bytes = [0; 817];
+    if !is_filled(input, &mut bytes[..1])? {
+        return Ok(Err(Unread::Cut(i)));
     }
-    let end = 177 + n;
-    let whole = read_whole(input, &mut bytes[1..end])?;
-    bytes[0] = kind;
-    Ok(Record { bytes, whole })
-}
-
-// The samples that end a record, which another decoder played, are passed over.
-fn pass_samples(input: &mut impl Read, n: usize) -> io::Result<bool>
-    requires { n ≤ 640 }
-{
-    let mut bytes = no_bytes();
-    read_whole(input, &mut bytes[..n])
-}
-
-fn write_samples(out: &mut impl Write, bytes: &[u8; 640], n: usize) -> bool
-    requires { n ≤ 640 }
-{
-    out.write_all(&bytes[..n]).is_ok()
-}
-
-#[derive(Clone, Copy)]
-struct Turn {
-    state: SilkDecoderState,
-    ended: Ended,
-}
-
-fn ended_by(s: SilkDecoderState, e: Ended) -> Turn
-    ensures { (result.state ≡ s) × (result.ended ≡ e) }
-{
-    Turn { state: s, ended: e }
-}
-
-fn how(kind: u8, refusal: Refusal) -> Ended
-    ensures { result ≡ how_of kind refusal }
-{
-    if refusal::number(refusal) != 0 {
-        return Ended::Refused(refusal);
-    }
-    if kind == 0 {
-        Ended::Concealed
-    } else {
-        Ended::Received
-    }
-}
-
-// One record, whose frame has the stream's shape and n bytes of samples.
-fn next(
-    input: &mut impl Read,
-    out: &mut impl Write,
-    s: SilkDecoderState,
-    rate: i32,
-    subframes: i32,
-    n: usize,
-) -> io::Result<Turn>
-    requires { n ≤ 640 }
-{
-    let mut first = [0u8; 1];
-    if !read_whole(input, &mut first)? {
-        return Ok(ended_by(s, Ended::Cut));
-    }
-    let kind = first[0];
+    let kind = bytes[0];
     if kind > 1 {
-        return Ok(ended_by(s, Ended::Kind(kind)));
+        return Ok(Err(Unread::Kind(i, kind)));
     }
-    let record = read_record(input, kind, n)?;
-    let bytes = record.bytes;
-    if !record.whole {
-        return Ok(ended_by(s, Ended::Cut));
-    }
-    if !pass_samples(input, n)? {
-        return Ok(ended_by(s, Ended::Cut));
-    }
-    let sound = played(s, rate, subframes, &bytes);
-    let refusal = sound.refusal;
-    let state = sound.state;
-    let samples = sound.bytes;
-    if !write_samples(out, &samples, n) {
-        return Ok(ended_by(s, Ended::Unwritten));
-    }
-    Ok(ended_by(state, how(kind, refusal)))
-}
-
-fn say_word(err: &mut impl Write, r: Refusal) -> io::Result<()> {
-    let w = refusal::word(r);
-    let letters = w.letters;
-    let n = w.len;
-    err.write_all(&letters[..n])
-}
-
-fn say_refusal(err: &mut impl Write, i: u32, r: Refusal) -> io::Result<()> {
-    let number = refusal::number(r);
-    write!(err, "frame {i} refused: {number} ")?;
-    say_word(err, r)?;
-    writeln!(err)
-}
-
-// Says what is to be said of record i, and whether to go on.
-fn report(err: &mut impl Write, i: u32, e: Ended) -> io::Result<bool> {
-    match e {
-        Ended::Refused(r) => {
-            say_refusal(err, i, r)?;
-            Ok(true)
+    if kind == 1 {
+        if !is_filled(input, &mut bytes[1..177 + n])? {
+            return Ok(Err(Unread::Cut(i)));
         }
-        Ended::Cut => {
-            writeln!(err, "the file ends within record {i}")?;
-            Ok(false)
-        }
-        Ended::Kind(kind) => {
-            writeln!(
-                err,
-                "record {i} has the kind {kind}; known are 0 (lost) and 1 (received)"
-            )?;
-            Ok(false)
-        }
-        Ended::Unwritten => {
-            writeln!(err, "the WAV file could not be written")?;
-            Ok(false)
-        }
-        _ => Ok(true),
     }
-}
-
-fn say_tally(err: &mut impl Write, t: Tally) -> io::Result<()> {
-    let received = t.received;
-    let concealed = t.concealed;
-    let refused = t.refused;
-    writeln!(
-        err,
-        "{received} received, {concealed} concealed, {refused} refused"
-    )
+    let mut samples = [0; 640];
+    if !is_filled(input, &mut samples[..n])? {
+        return Ok(Err(Unread::Cut(i)));
+    }
+    Ok(Ok(bytes))
 }
 
 fn play_records(
@@ -268,25 +147,38 @@ fn play_records(
         refused: 0,
     };
     for i in 0..records {
-        let turn = next(input, out, state, rate, subframes, n)?;
-        let ended = turn.ended;
-        let new = turn.state;
-        state = new;
-        if !report(err, i, ended)? {
-            return Ok(());
+        let bytes = match next_record(input, i, n)? {
+            Ok(bytes) => bytes,
+            Err(unread) => return writeln!(err, "{unread}"),
+        };
+        let sound = played(state, rate, subframes, &bytes);
+        if out.write_all(&sound.bytes[..n]).is_err() {
+            return writeln!(err, "the WAV file could not be written");
         }
-        t = counted(t, ended);
+        match sound.answer {
+            Ok(answer) => state = answer.state,
+            Err(refusal) => {
+                let number = refusal.number();
+                writeln!(err, "frame {i} refused: {number} {refusal}")?;
+            }
+        }
+        t = counted(t, how(bytes[0], sound.answer));
     }
-    let mut more = [0u8; 1];
-    if read_whole(input, &mut more)? {
+    if is_filled(input, &mut [0; 1])? {
         return writeln!(err, "bytes follow the last record");
     }
-    say_tally(err, t)
+    let received = t.received;
+    let concealed = t.concealed;
+    let refused = t.refused;
+    writeln!(
+        err,
+        "{received} received, {concealed} concealed, {refused} refused"
+    )
 }
 
 // A frame of 2 subframes has 10 ms, one of 4 has 20.
 fn say_stream(err: &mut impl Write, h: Head) -> io::Result<()> {
-    let frames = h.records as u64;
+    let frames = u64::from(h.records);
     let ms = if h.subframes == 2 {
         10 * frames
     } else {
@@ -306,7 +198,7 @@ fn play(
 ) -> io::Result<()> {
     let rate = signed_byte(h.rate);
     let subframes = signed_byte(h.subframes);
-    let head = wav_header(1000 * (h.rate as u32), h.samples);
+    let head = wav_header(1000 * u32::from(h.rate), h.samples);
     if out.write_all(&head).is_err() {
         return writeln!(err, "the WAV file could not be written");
     }
@@ -315,18 +207,19 @@ fn play(
         squelch: 0,
         edition: NEWER,
     };
-    let made = set_up_with(rate, subframes, settings);
-    let s = made.state;
-    play_records(
-        input,
-        out,
-        err,
-        s,
-        rate,
-        subframes,
-        2 * shape::frame_length(rate, subframes),
-        h.records,
-    )
+    match set_up_with(rate, subframes, settings) {
+        Ok(s) => play_records(
+            input,
+            out,
+            err,
+            s,
+            rate,
+            subframes,
+            2 * shape::frame_length(rate, subframes),
+            h.records,
+        ),
+        Err(refusal) => writeln!(err, "no stream: {refusal}"),
+    }
 }
 
 fn main(rt: HostRuntime) -> io::Result<()> {
@@ -334,30 +227,26 @@ fn main(rt: HostRuntime) -> io::Result<()> {
     let mut out = rt.stdout();
     let mut err = rt.stderr();
     let mut header = [0u8; 16];
-    let got = if read_whole(&mut input, &mut header)? {
-        16
-    } else {
-        0
-    };
+    let got = read_full(&mut input, &mut header)?;
     match read_header(&header, got) {
-        Opened::Stream(h) => {
+        Ok(h) => {
             say_stream(&mut err, h)?;
             play(&mut input, &mut out, &mut err, h)
         }
-        Opened::Cut => writeln!(err, "no stream: the file ends within its first 16 bytes"),
-        Opened::Foreign => writeln!(err, "no stream: the file has another format"),
-        Opened::Rate(rate) => {
+        Err(Unplayed::Cut) => writeln!(err, "no stream: the file ends within its first 16 bytes"),
+        Err(Unplayed::Foreign) => writeln!(err, "no stream: the file has another format"),
+        Err(Unplayed::Rate(rate)) => {
             writeln!(
                 err,
                 "no stream: its rate is {rate} kHz; played are 8, 12 and 16"
             )
         }
-        Opened::Subframes(n) => {
+        Err(Unplayed::Subframes(n)) => {
             writeln!(
                 err,
                 "no stream: its frames have {n} subframes; played are 2 and 4"
             )
         }
-        Opened::Long => writeln!(err, "the stream is too long for a WAV file"),
+        Err(Unplayed::Long) => writeln!(err, "the stream is too long for a WAV file"),
     }
 }

@@ -1,13 +1,29 @@
--- What playing a recording answers, refused or not.
-use Prim.Native.Nat.{ℕ, suc, ◌-◌}
-use mathlib.Core.Path.{◌≡◌, refl, ap}
+-- What a call leaves, and what playing a recording answers, refused or not.
+use Prim.Native.Nat.{ℕ, suc, ◌-◌, ◌*◌, ◌≤◌}
+use mathlib.Core.Path.{◌≡◌, refl, sym, ap, ◌∙◌}
+use mathlib.Core.Bool.{false}
 use mathlib.Core.List.{List, [], ◌∷◌, ◌++◌, map}
-use borrow.Author.Tests.{eq-eqb, ne_eqb}
+use borrow.Author.Tests.{ltb-false}
+use lib.Dec.{ltb}
 use lib.IntN.{ℤ}
 use lib.ListN.{length, drop}
-use Rattle.refusal.specs.Refusals.{refusal_number}
-use Rattle.chain.specs.Chain.{chain_of, on_chain}
+use Rattle.std.specs.Prelude.{Result, Ok, Err, IfOk}
+use Rattle.refusal.specs.First.{◌gives◌, first_of}
+use Rattle.refusal.specs.Refusals.{Judged, code_of, if_accepted}
+use Rattle.refusal.specs.declared.Refusal.{Refusal}
+use Rattle.refusal.specs.declared.Refusal.TheVariants.{Record}
+use Rattle.refusal.proofs.Clear.{clear}
+use Rattle.decoder.specs.Answer.{answer}
+use Rattle.decoder.specs.Outcome.{Outcome}
+use Rattle.decoder.specs.declared.SilkDecoderState.{SilkDecoderState}
+use Rattle.chain.specs.Chain.{records_in, chain_of, on_chain}
+use Rattle.decode_frame.specs.Call.{Call}
+use Rattle.decode_frame.specs.Answer.{frame_refusal, frame_outcome, frame_answer, state_left}
+use Rattle.lists.specs.Lists.{state_after}
 use Rattle.recording.specs.Frames.{frames_in}
+use Rattle.recording.specs.Reading.{read_refusal}
+use Rattle.recording.proofs.Rows.{then_err, passed_then}
+use Rattle.playback.specs.declared.Played.{Played}
 use Rattle.playback.specs.Playback.{received_in, played_samples, play_refusal, play_of}
 
 pub length-map : {A B : Type 0} (f : A → B) (xs : List A) → length (map f xs) ≡ length xs
@@ -18,17 +34,40 @@ pub length-frames : (b : List ℕ) → length (frames_in b) ≡ length (on_chain
 unfolding frames_in
 length-frames b = length-map _ (on_chain (chain_of b))
 
-module _ (b : List ℕ) (out : List ℤ) where
-  pub play_refused : (refusal_number (play_refusal b (length out)) ≡ 0 → ⊥)
-      → record { answer = record { refusal = play_refusal b (length out); received = 0; concealed = 0; samples = 0 }; output = out } ≡ play_of b out
-  unfolding play_of
-  play_refused h = rw (ne_eqb (refusal_number (play_refusal b (length out))) 0 h)
+pub left : (s : SilkDecoderState) (x : Call) → state_left s (frame_answer s x) ≡ state_after s x
+unfolding state_after
+left s x = refl
 
-  pub play_accepted : refusal_number (play_refusal b (length out)) ≡ 0
+module _ (b : List ℕ) (out : List ℤ) where
+  -- the room, as a call judges it
+  module _ {q : Judged} {m : ℕ} (j : q ≡ first_of ((ltb (length out) m gives Record) ∷ [])) (d : m ≡ 320 * (records_in b - 1)) where
+    room_row : q ≡ first_of ((ltb (length out) (320 * (records_in b - 1)) gives Record) ∷ [])
+    room_row = j ∙ ap (λ (n : ℕ). first_of ((ltb (length out) n gives Record) ∷ [])) d
+
+    pub too_short : {e : Refusal} → q ≡ Err e → play_refusal b (length out) ≡ Err e
+    unfolding play_refusal
+    too_short h = then_err (ltb (length out) (320 * (records_in b - 1)) gives Record) [] (read_refusal b) (sym room_row ∙ h)
+
+    row-clear : q ≡ Ok tt → ltb (length out) (320 * (records_in b - 1)) ≡ false
+    row-clear h = (clear ((ltb (length out) (320 * (records_in b - 1)) gives Record) ∷ []) (ap code_of (sym room_row ∙ h))).0
+
+    pub has_room : q ≡ Ok tt → 320 * (records_in b - 1) ≤ length out
+    has_room h = ltb-false (length out) (320 * (records_in b - 1)) (row-clear h)
+
+    pub by_reading : q ≡ Ok tt → play_refusal b (length out) ≡ read_refusal b
+    unfolding play_refusal
+    by_reading h = passed_then ((ltb (length out) (320 * (records_in b - 1)) gives Record) ∷ []) (read_refusal b) (row-clear h, tt)
+
+  pub play_refused : {e : Refusal} {t : Result Played Refusal} → play_refusal b (length out) ≡ Err e → t ≡ Err e
+      → (record { answer = t; output = out } ≡ play_of b out) × IfOk t (λ p. p.samples ≤ 19200)
+  unfolding play_of
+  play_refused h k = (rw (h, k) refl, rw k tt)
+
+  pub play_accepted : play_refusal b (length out) ≡ Ok tt
       → record {
-        answer = record { refusal = play_refusal b (length out); received = received_in (frames_in b); concealed = length (frames_in b) - received_in (frames_in b); samples = length (played_samples b) };
+        answer = Ok (record { received = received_in (frames_in b); concealed = length (frames_in b) - received_in (frames_in b); samples = length (played_samples b) });
         output = played_samples b ++ drop (length (played_samples b)) out;
       }
       ≡ play_of b out
   unfolding play_of
-  play_accepted h = rw (eq-eqb (refusal_number (play_refusal b (length out))) 0 h)
+  play_accepted h = rw h refl

@@ -6,7 +6,7 @@ use native.Mathlib.Omega.{arith}
 use native.Mathlib.Numerals.{add-one}
 use lib.IntN.{ℤ}
 use lib.ListN.{length, get_or, take, drop, length-append, take-append-drop, drop_of_length-le}
-use lib.Seq.{drop-drop, drop-cons, get_or-take, length-take-le, take_at, drop_at}
+use lib.Seq.{drop-drop, drop-cons, length-take-le, take_at, drop_at}
 use Rattle.sigproc.specs.Place.{put_at}
 use Rattle.shape.specs.Shape.{shape, frame_length}
 use Rattle.decoder.specs.declared.SilkDecoderState.{SilkDecoderState}
@@ -20,19 +20,19 @@ unfolding call_of
 shape_of khz nb lost = refl
 shape_of khz nb (received q c rows lines pulses) = refl
 
-module _ (khz nb : ℤ) (s₀ : SilkDecoderState) (b r : List ℕ) (n : ℕ) (out₀ : List ℤ) where
+module _ (khz nb : ℤ) (s₀ : SilkDecoderState) (b r : List ℕ) (out₀ : List ℤ) where
   -- k frames are played: their samples, and the rest of the buffer as it was
   pub record Played (out : List ℤ) (s : SilkDecoderState) (at k : ℕ) : Type 0 where
     pub room : at ≤ 320 * k
     pub long : length out ≡ length out₀
     pub behind : drop at out ≡ drop at out₀
-    pub so_far : samples_from khz nb s₀ (map (recorded_at b) (take n r)) ≡ take at out ++ samples_from khz nb s (map (recorded_at b) (drop k (take n r)))
+    pub so_far : samples_from khz nb s₀ (map (recorded_at b) r) ≡ take at out ++ samples_from khz nb s (map (recorded_at b) (drop k r))
 
   pub none-played : Played out₀ s₀ 0 0
   none-played = record { room = omega arith; long = refl; behind = refl; so_far = refl }
 
   -- one frame more, of m samples
-  module _ (out : List ℤ) (s : SilkDecoderState) (at k m : ℕ) (samples : List ℤ) (h : n ≤ length r) (l : k < n) (e : m ≡ frame_length (shape khz nb)) (f : m ≤ 320) (g : length samples ≡ 320) (c : at + m ≤ length out) (p : Played out s at k) where
+  module _ (out : List ℤ) (s : SilkDecoderState) (at k m : ℕ) (samples : List ℤ) (l : k < length r) (e : m ≡ frame_length (shape khz nb)) (f : m ≤ 320) (g : length samples ≡ 320) (c : at + m ≤ length out) (p : Played out s at k) where
     abbrev front : List ℤ
     front = take at out ++ take m samples
 
@@ -50,10 +50,10 @@ module _ (khz nb : ℤ) (s₀ : SilkDecoderState) (b r : List ℕ) (n : ℕ) (ou
     unfolding samples_from
     one_more next q t =
         let x = recorded_at b (get_or r k 0) in
-        let d : drop k (take n r) ≡ get_or r k 0 ∷ drop (k + 1) (take n r) =
-        drop-cons (take n r) k 0 (omega (arith, length-take-le n r h)) ∙ (λ i. get_or-take n r k 0 l i ∷ drop (sym (add-one k) i) (take n r)) in
+        let d : drop k r ≡ get_or r k 0 ∷ drop (k + 1) r =
+        drop-cons r k 0 l ∙ (λ i. get_or r k 0 ∷ drop (sym (add-one k) i) r) in
         let z : m ≡ frame_length (shape_at (call_of khz nb x)) = e ∙ ap frame_length (sym (shape_of khz nb x)) in
-        let y = map (recorded_at b) (drop (k + 1) (take n r)) in
+        let y = map (recorded_at b) (drop (k + 1) r) in
         record {
           room = omega (arith, p.room);
           long = t ∙ p.long;
@@ -68,16 +68,16 @@ module _ (khz nb : ℤ) (s₀ : SilkDecoderState) (b r : List ℕ) (n : ℕ) (ou
         }
 
   -- all frames are played
-  module _ (out : List ℤ) (s : SilkDecoderState) (at k : ℕ) (h : n ≤ length r) (e : k ≡ n) (c : at ≤ length out) (p : Played out s at k) where
-    all-is : samples_from khz nb s₀ (map (recorded_at b) (take n r)) ≡ take at out
+  module _ (out : List ℤ) (s : SilkDecoderState) (at k : ℕ) (e : k ≡ length r) (c : at ≤ length out) (p : Played out s at k) where
+    all-is : samples_from khz nb s₀ (map (recorded_at b) r) ≡ take at out
     unfolding samples_from
     all-is =
         p.so_far
-        ∙ ap (λ (ks : List ℕ). take at out ++ samples_from khz nb s (map (recorded_at b) ks)) (drop_of_length-le (take n r) {i = k} (omega (arith, length-take-le n r h)))
+        ∙ ap (λ (ks : List ℕ). take at out ++ samples_from khz nb s (map (recorded_at b) ks)) (drop_of_length-le r {i = k} (omega (arith, e)))
         ∙ append-nil (take at out)
 
-    pub all_count : at ≡ length (samples_from khz nb s₀ (map (recorded_at b) (take n r)))
+    pub all_count : at ≡ length (samples_from khz nb s₀ (map (recorded_at b) r))
     all_count = sym (ap length all-is ∙ length-take-le at out c)
 
-    pub all_played : out ≡ samples_from khz nb s₀ (map (recorded_at b) (take n r)) ++ drop at out₀
+    pub all_played : out ≡ samples_from khz nb s₀ (map (recorded_at b) r) ++ drop at out₀
     all_played = sym (take-append-drop at out) ∙ (λ i. sym all-is i ++ p.behind i)

@@ -1,6 +1,6 @@
 -- Every frame of an accepted recording is played.
 use Prim.Native.Nat.{ℕ, ◌+◌, ◌*◌, ◌≤◌}
-use mathlib.Core.Path.{◌≡◌, refl}
+use mathlib.Core.Path.{◌≡◌}
 use mathlib.Core.Bool.{Bool, true, false, cond}
 use mathlib.Core.List.{List, [], ◌∷◌, map}
 use native.Mathlib.Omega.{arith}
@@ -11,19 +11,14 @@ use mir.Syntax.{Width, w16, w32}
 use Rattle.word.proofs.Lists.{length-tabulate}
 use Rattle.word.proofs.Words.{wrap-fits}
 use Rattle.le.specs.Bytes.{signed_at, words_at}
-use Rattle.refusal.specs.Refusals.{refusal_number}
-use Rattle.refusal.specs.declared.Refusal.TheVariants.{Nothing}
-use Rattle.refusal.proofs.Clear.{clear, passed}
+use Rattle.refusal.specs.Refusals.{code_of}
+use Rattle.refusal.proofs.Clear.{accepted}
 use Rattle.refusal.proofs.Earliest.{earlier-clear}
 use Rattle.shape.specs.Shape.{shape, is_rate, is_count}
 use Rattle.shape.proofs.Shapes.{frame_le}
-use Rattle.decoder.specs.Settings.{settings_fit, is_squelch}
-use Rattle.decoder.specs.Ranges.{within}
-use Rattle.edition.specs.Edition.{is_edition}
 use Rattle.decoder.specs.Typed.{Words, TypedControl, TypedRows, TypedLines}
-use Rattle.decoder.proofs.SetUps.{set_up_accepts}
+use Rattle.decoder.proofs.SetUps.{set_up_state}
 use Rattle.decoder.proofs.Types.{zero_fits, zeros-words, tabulate-fits}
-use Rattle.judge.specs.Rows.{description_rows}
 use Rattle.record.specs.Record.{params_in, control_in, rows_in, lines_in, pulses_in}
 use Rattle.record.specs.Recorded.{Recorded, lost, received, recorded_in}
 use Rattle.chain.specs.Chain.{chain_of, on_chain}
@@ -31,8 +26,9 @@ use Rattle.recording.specs.Frames.{rate_in, count_in, recorded_at, frames_in, de
 use Rattle.recording.proofs.Answers.{rows-clear, few-frames}
 use Rattle.lists.specs.Claims.{Every, TypedCall, TypedCalls, Playable}
 use Rattle.lists.proofs.Plays.{frames-played}
-use Rattle.playback.specs.Playback.{no_control, silence, call_of, plain}
+use Rattle.playback.specs.Playback.{no_control, silence, call_of, plain, start_of}
 use Rattle.playback.specs.Claims.{RecordingPlays}
+use Rattle.playback.proofs.Read.{settings-fit}
 use Rattle.playback.proofs.Answers.{length-map, length-frames}
 
 -- words that are read are words
@@ -74,16 +70,15 @@ module _ (khz nb : ℤ) (e : is_rate khz ≡ true) (f : is_count nb ≡ true) wh
   typed (received q c rows lines pulses) t =
       record { control = t.0; beside = record { rows = t.1; lines = t.2; pulses = t.3.fits } }
 
-  playable : (x : Recorded) → Fit x → refusal_number (described (shape khz nb) x) ≡ 0 → Playable (call_of khz nb x)
+  playable : (x : Recorded) → Fit x → code_of (described (shape khz nb) x) ≡ 0 → Playable (call_of khz nb x)
   unfolding call_of described silence
   playable lost t d =
       record { rate = e; count = f; described = tt; room = rw (length-replicate {A = ℤ} 320 (pos 0)) (frame_le khz nb) }
   playable (received q c rows lines pulses) t d =
-      let rows = description_rows (shape khz nb) q c lines in
       record {
         rate = e;
         count = f;
-        described = (passed rows Nothing (clear rows Nothing refl d).0, rw t.3.count (frame_le khz nb));
+        described = (accepted _ d, rw t.3.count (frame_le khz nb));
         room = rw (length-replicate {A = ℤ} 320 (pos 0)) (frame_le khz nb);
       }
 
@@ -93,16 +88,12 @@ module _ (khz nb : ℤ) (e : is_rate khz ≡ true) (f : is_count nb ≡ true) wh
     all_typed [] = Every.none
     all_typed (k ∷ ks) = Every.then (typed (recorded_at b k) (fit (drop (1024 * k + 2) b))) (all_typed ks)
 
-    all-playable : (ks : List ℕ) → refusal_number (described_all (shape khz nb) (map (recorded_at b) ks)) ≡ 0 → Every Playable (map (call_of khz nb) (map (recorded_at b) ks))
+    all-playable : (ks : List ℕ) → code_of (described_all (shape khz nb) (map (recorded_at b) ks)) ≡ 0 → Every Playable (map (call_of khz nb) (map (recorded_at b) ks))
     unfolding recorded_at described_all
     all-playable [] d = Every.none
     all-playable (k ∷ ks) d =
         let c = earlier-clear (described (shape khz nb) (recorded_at b k)) (described_all (shape khz nb) (map (recorded_at b) ks)) d in
         Every.then (playable (recorded_at b k) (fit (drop (1024 * k + 2) b)) c.0) (all-playable ks c.1)
-
-settings-fit : settings_fit plain ≡ true
-unfolding settings_fit is_squelch is_edition within
-settings-fit = refl
 
 pub recording_plays : RecordingPlays
 unfolding frames_in
@@ -110,8 +101,11 @@ recording_plays b t a =
     let r = rows-clear b a in
     let ks = on_chain (chain_of b) in
     let l : length (map (call_of (rate_in b) (count_in b)) (frames_in b)) ≤ 2147483647 = omega (arith, length-map (call_of (rate_in b) (count_in b)) (frames_in b), length-frames b, few-frames b r.whole) in
-    frames-played (rate_in b) (count_in b) plain (map (call_of (rate_in b) (count_in b)) (frames_in b))
-    (set_up_accepts (rate_in b) (count_in b) plain r.rate r.count settings-fit)
-    (all_typed (rate_in b) (count_in b) r.rate r.count b ks)
-    l
-    (all-playable (rate_in b) (count_in b) r.rate r.count b ks r.described)
+    let s = set_up_state (rate_in b) (count_in b) plain r.rate r.count settings-fit in (
+      s,
+      frames-played (rate_in b) (count_in b) plain (start_of b) (map (call_of (rate_in b) (count_in b)) (frames_in b))
+          s
+          (all_typed (rate_in b) (count_in b) r.rate r.count b ks)
+          l
+          (all-playable (rate_in b) (count_in b) r.rate r.count b ks r.described),
+    )

@@ -1,21 +1,24 @@
 -- Document 02, Note 9: a recording played by a post that is set up for its shape.
-use Rattle.std.specs.Prelude.{ℕ, ◌+◌, ◌-◌, ◌*◌, List, [], ◌∷◌, ◌++◌, ltb, ℤ, pos, length, take, drop, replicate}
+use Rattle.std.specs.Prelude.{ℕ, ◌+◌, ◌-◌, ◌*◌, List, [], ◌∷◌, ◌++◌, ltb, Result, Ok, Err, ℤ, pos, length, take, drop, replicate}
 use Rattle.edition.specs.Edition.{newer}
-use Rattle.refusal.specs.First.{◌gives◌, first_or}
-use Rattle.refusal.specs.Refusals.{if_accepted}
+use Rattle.refusal.specs.First.{◌gives◌}
+use Rattle.refusal.specs.Refusals.{Judged, if_accepted, answered}
 use Rattle.refusal.specs.declared.Refusal.{Refusal}
 use Rattle.refusal.specs.declared.Refusal.TheVariants.{Record}
 use Rattle.shape.specs.Shape.{frame_length}
-use Rattle.decoder.specs.SetUp.{set_up_with}
+use Rattle.decoder.specs.SetUp.{state_from}
+use Rattle.decoder.specs.declared.Answer.{Answer}
 use Rattle.decoder.specs.declared.Settings.{Settings}
 use Rattle.decoder.specs.declared.SilkDecoderState.{SilkDecoderState}
 use Rattle.decoder.specs.declared.SilkDecoderControl.{SilkDecoderControl}
 use Rattle.decoder.specs.declared.Frame.TheVariants.{Received, Lost}
 use Rattle.decode_frame.specs.Call.{Call, frame_call, shape_at}
-use Rattle.decode_frame.specs.Answer.{frame_answer, frame_output}
+use Rattle.decode_frame.specs.Answer.{frame_output}
+use Rattle.lists.specs.Lists.{state_after}
 use Rattle.record.specs.Recorded.{Recorded, lost, received}
 use Rattle.chain.specs.Chain.{records_in}
 use Rattle.recording.specs.Frames.{rate_in, count_in, frames_in}
+use Rattle.recording.specs.Rows.{first_then}
 use Rattle.recording.specs.Reading.{read_refusal}
 use Rattle.playback.specs.declared.Sound.{Sound}
 use Rattle.playback.specs.declared.Played.{Played}
@@ -36,7 +39,7 @@ call_of khz nb (received q c rows lines pulses) = frame_call khz nb (Received q)
 
 -- what a call leaves: the new state, and its buffer
 unfoldable pub sound_of : SilkDecoderState → Call → Sound
-sound_of s x = record { state = (frame_answer s x).state; samples = frame_output s x }
+sound_of s x = record { state = state_after s x; samples = frame_output s x }
 
 -- the frames' samples, 5rn each, from a state
 unfoldable pub samples_from : ℤ → ℤ → SilkDecoderState → List Recorded → List ℤ
@@ -58,33 +61,29 @@ received_in (x ∷ xs) = received_one x + received_in xs
 abbrev pub plain : Settings
 plain = record { squelch = pos 0; edition = newer }
 
+-- what set-up gives for the shape of an accepted recording
 abbrev pub start_of : List ℕ → SilkDecoderState
-start_of b = (set_up_with (rate_in b) (count_in b) plain).state
+start_of b = state_from (rate_in b) (count_in b) plain
 
 unfoldable pub played_samples : List ℕ → List ℤ
 played_samples b = samples_from (rate_in b) (count_in b) (start_of b) (frames_in b)
 
 -- 21 for less room than the largest frames of so many records need, then what reading answers
-unfoldable pub play_refusal : List ℕ → ℕ → Refusal
-play_refusal b lent = first_or ((ltb lent (320 * (records_in b - 1)) gives Record) ∷ []) (read_refusal b)
+unfoldable pub play_refusal : List ℕ → ℕ → Judged
+play_refusal b lent = first_then ((ltb lent (320 * (records_in b - 1)) gives Record) ∷ []) (read_refusal b)
 
 -- an answer, and the buffer
 pub record Output : Type 0 where
-  pub answer : Played
+  pub answer : Result Played Refusal
   pub output : List ℤ
 
--- the frames received and concealed and the samples in front of the rest of the buffer; refused, zeros and the buffer as lent
+-- the frames received and concealed and the samples in front of the rest of the buffer; refused, the buffer as lent
 unfoldable pub play_of : List ℕ → List ℤ → Output
 play_of b lent =
-    let r = play_refusal b (length lent) in
+    let j = play_refusal b (length lent) in
     let xs = frames_in b in
     let n = length (played_samples b) in
     record {
-      answer = record {
-        refusal = r;
-        received = if_accepted r (received_in xs) 0;
-        concealed = if_accepted r (length xs - received_in xs) 0;
-        samples = if_accepted r n 0;
-      };
-      output = if_accepted r (played_samples b ++ drop n lent) lent;
+      answer = answered j (record { received = received_in xs; concealed = length xs - received_in xs; samples = n });
+      output = if_accepted j (played_samples b ++ drop n lent) lent;
     }

@@ -1,5 +1,5 @@
 -- Document 01, "A lost frame": concealment (plc.rs, silk_plc_energy and silk_plc_conceal).
-use Rattle.std.specs.Prelude.{ℕ, zero, suc, ◌+◌, ◌-◌, ◌*◌, ◌^◌, Bool, cond, List, [], ◌∷◌, ◌++◌, map, ltb, ℤ, pos, nat_abs, ◌+ℤ◌, ◌-ℤ◌, ◌*ℤ◌, get_or, length, take, drop, replicate}
+use Rattle.std.specs.Prelude.{ℕ, zero, suc, ◌+◌, ◌-◌, ◌*◌, ◌^◌, ◌≡◌, Bool, cond, List, [], ◌∷◌, ◌++◌, map, ltb, ℤ, pos, nat_abs, ◌+ℤ◌, ◌-ℤ◌, ◌*ℤ◌, get_or, length, take, drop, replicate}
 use Rattle.std.specs.Int.Signed.{lt_z}
 use Rattle.word.specs.Int.{floor_div, mod_ℤ, eq_ℤ, wrap16, wrap32, sat16, min_ℤ, max_ℤ}
 use Rattle.word.specs.Tabulate.{tabulate}
@@ -12,6 +12,7 @@ use Rattle.sigproc.specs.Synthesis.{ltp_prediction, synthesis, played}
 use Rattle.stability.specs.Stability.{stability, inverse_gain}
 use Rattle.shape.specs.Shape.{Shape, subfr_length, frame_length, mem_length, lpc_order}
 use Rattle.decoder.specs.With.{with_memory, with_losses, with_plc}
+use Rattle.decoder.specs.Ranges.{within}
 use Rattle.decoder.specs.Outcome.{Outcome}
 use Rattle.decoder.specs.declared.SilkPLCState.{SilkPLCState}
 use Rattle.decoder.specs.declared.SilkDecoderState.{SilkDecoderState}
@@ -20,6 +21,14 @@ use Rattle.judge.specs.Taps.{tap_sum}
 use Rattle.plc.specs.declared.conceal.Carried.{Carried}
 use Rattle.plc.specs.declared.conceal.Concealed.{Concealed}
 use Rattle.plc.specs.Hold.{hold, plc_ready}
+
+-- a lag (Q8) lies in 2 to 18 ms at a rate
+abbrev pub pitched : ℕ → ℤ → Bool
+pitched r pitch = within (pos (512 * r)) (pos (4608 * r)) pitch
+
+-- every element is 0
+abbrev pub AllZero : List ℤ → Type 0
+AllZero xs = (i : ℕ) → get_or xs i (pos 0) ≡ pos 0
 
 -- excitation as it was played by a gain (Q16)
 unfoldable pub heard_by : ℤ → List ℤ → List ℤ

@@ -1,8 +1,12 @@
 -- What concealment holds, and its reset (plc.rs, silk_plc_reset).
-use Rattle.std.specs.Prelude.{◌*◌, ◌^◌, cond, List, [], ◌∷◌, ℤ, pos}
+use Rattle.std.specs.Prelude.{ℕ, ◌*◌, ◌^◌, cond, List, [], ◌∷◌, ℤ, pos}
 use Rattle.word.specs.Int.{eq_ℤ}
-use Rattle.shape.specs.Shape.{Shape, frame_length}
+use Rattle.shape.specs.Shape.{Shape, rate_of, frame_length}
 use Rattle.decoder.specs.declared.SilkPLCState.{SilkPLCState}
+
+-- the shape of a rate's number and a count of subframes
+abbrev pub shape_at : ℤ → ℕ → Shape
+shape_at khz n = record { rate = rate_of khz; subframes = n }
 
 -- what update and concealment may change of h; the rest belongs to gluing
 abbrev pub hold : SilkPLCState → ℤ → List ℤ → List ℤ → ℤ → ℤ → ℤ → List ℤ → ℤ → ℤ → ℤ → SilkPLCState

@@ -1,8 +1,6 @@
 // Concealment of a lost frame (plc.rs, silk_plc_conceal).
 // Inner: every function but silk_plc_lost.
 ghost use Rattle.std.specs.Prelude.{◌≡◌, ◌⊎◌, true, false, cond, map, ◌++◌, ℕ, ◌+◌, ◌-◌, ◌*◌, ◌^◌, ◌≤◌, ◌<◌, ltb, pos, nat_abs, ◌+ℤ◌, ◌-ℤ◌, ◌*ℤ◌, get_or, length, replicate, take, drop};
-ghost use Rattle.std.specs.Int.{w16};
-ghost use Rattle.std.proofs.Common.{SFits};
 ghost use Rattle.std.specs.Int.Signed.{le_z};
 ghost use Rattle.word.specs.Int.{floor_div, mod_ℤ, eq_ℤ, wrap16, wrap32, min_ℤ, max_ℤ};
 ghost use Rattle.word.specs.Tabulate.{tabulate};
@@ -11,54 +9,39 @@ ghost use Rattle.macros.specs.Quotient.{inverse32_varq};
 ghost use Rattle.sigproc.specs.Analysis.{residual};
 ghost use Rattle.sigproc.specs.Expand.{bwexpander};
 ghost use Rattle.sigproc.specs.Synthesis.{synthesis, played};
-ghost use Rattle.shape.specs.Shape.{is_rate, is_count, rate_of, order_of, frame_length};
+ghost use Rattle.shape.specs.Shape.{is_rate, is_count, rate_of, frame_length};
 ghost use Rattle.decoder.specs.State.{shape_of};
 ghost use Rattle.decoder.specs.With.{with_memory, with_losses, with_plc};
-ghost use Rattle.decoder.specs.Ranges.{within, subframes_held, plc_held, plc_fits};
+ghost use Rattle.decoder.specs.Ranges.{subframes_held, plc_held, plc_fits};
 ghost use Rattle.judge.specs.Taps.{tap_sum};
-ghost use Rattle.plc.specs.Hold.{hold};
+ghost use Rattle.plc.specs.Hold.{shape_at, hold};
 ghost use Rattle.plc.specs.Answer.{plc_lost, plc_lost_output};
-ghost use Rattle.plc.specs.Conceal.{heard_by, place_from, coefficients, voice, concealed, lagged, plc_conceal, later_gain, signal_by, concealed_by, harm_gain, noise_gain, noise_scale, voice_of, lag_of, rewhitened, excited_times, faded, faded_voice, voices, voice_by};
+ghost use Rattle.plc.specs.Conceal.{AllZero, pitched, heard_by, place_from, coefficients, voice, concealed, lagged, plc_conceal, later_gain, signal_by, concealed_by, harm_gain, noise_gain, noise_scale, voice_of, lag_of, rewhitened, excited_times, faded, faded_voice, voices, voice_by};
 
 use crate::update::{noise_place, pitch_max_q8, ready};
 use decoder::{Answer, SilkDecoderControl, SilkDecoderState, SilkPLCState};
+use judge::tap_sum;
 use macros::{
     silk_inverse32_varq, silk_max_32, silk_min_32, silk_rand, silk_rshift_round, silk_smlawb,
     silk_smulbb, silk_smulwb,
 };
+use refusal::Refusal;
 use shape::{Rate, count_of};
 use sigproc::{
-    copy32_at, ltp_prediction, scale_out, silk_bwexpander, silk_lpc_analysis_filter, synthesis,
+    copy_at, ltp_prediction, scale_out, silk_bwexpander, silk_lpc_analysis_filter, synthesis,
 };
 use stability::inverse_pred_gain;
 use word::{add32, low16, shl32, shr32, sub32, wide16};
-
-fn no_coefficients() -> [i16; 16]
-    ensures { result ≡ replicate 16 (pos 0) }
-{
-    [0; 16]
-}
-
-fn no_samples() -> [i16; 320]
-    ensures { result ≡ replicate 320 (pos 0) }
-{
-    [0; 320]
-}
-
-fn no_history() -> [i32; 640]
-    ensures { result ≡ replicate 640 (pos 0) }
-{
-    [0; 640]
-}
 
 // The coefficients held, or none while no frame was received.
 fn held_coefficients(first_frame_after_reset: i32, prev_lpc_q12: [i16; 16]) -> [i16; 16]
     ensures { result ≡ cond (eq_ℤ first_frame_after_reset (pos 0)) prev_lpc_q12 (replicate 16 (pos 0)) }
 {
     if first_frame_after_reset == 0 {
-        return prev_lpc_q12;
+        prev_lpc_q12
+    } else {
+        [0; 16]
     }
-    no_coefficients()
 }
 
 fn coefficients(first_frame_after_reset: i32, prev_lpc_q12: [i16; 16], d: usize) -> [i16; 16]
@@ -125,8 +108,8 @@ fn faded_taps(taps: [i16; 5], gain: i32) -> [i16; 5]
     ensures { result ≡ map (faded gain) taps }
 {
     let mut b = taps;
-    for j in 0..5 {
-        b[j] = faded(gain, taps[j]);
+    for (j, x) in b.iter_mut().enumerate() {
+        *x = faded(gain, taps[j]);
     }
     b
 }
@@ -158,32 +141,13 @@ fn excited_sample(prediction: i32, noise: i32, scale_q14: i16) -> i32
     shl32(silk_smlawb(prediction, noise, wide16(scale_q14)), 2)
 }
 
-fn tap(taps: &[i16; 5], i: usize) -> i32
-    requires { i < 5 }
-    ensures { (result ≡ get_or taps.now i (pos 0)) × SFits w16 result }
-{
-    wide16(taps[i])
-}
-
-fn tap_sum(taps: &[i16; 5]) -> i32
-    ensures { (result ≡ tap_sum taps.now 0) × (nat_abs result ≤ 163840) }
-{
-    add32(
-        add32(
-            add32(add32(tap(taps, 0), tap(taps, 1)), tap(taps, 2)),
-            tap(taps, 3),
-        ),
-        tap(taps, 4),
-    )
-}
-
 // The noise's scale after a voiced frame: what the taps leave, times the LTP scale.
 fn voiced_scale(taps: &[i16; 5], ltp_scale_q14: i16) -> i16
     ensures { result ≡ wrap16 (floor_div (smulbb (max_ℤ (pos 16384 -ℤ tap_sum taps.now 0) (pos 3277)) ltp_scale_q14) (2 ^ 14)) }
 {
     low16(shr32(
         silk_smulbb(
-            silk_max_32(sub32(16384, tap_sum(taps)), 3277),
+            silk_max_32(sub32(16384, tap_sum(taps, 0)), 3277),
             wide16(ltp_scale_q14),
         ),
         14,
@@ -211,9 +175,10 @@ fn noise_scale(
 
 // The residual of the history from a place on, divided by the gain.
 fn divide(buf: &mut [i32], residual: &[i16; 320], from: usize, mem: usize, inv_gain_q30: i32)
-    requires { (from ≤ mem) × (mem ≤ 320) × (mem ≤ length buf.old) × ((i : ℕ) → get_or buf.old i (pos 0) ≡ pos 0) }
+    requires { (from ≤ mem) × (mem ≤ 320) × (mem ≤ length buf.old) × AllZero buf.old }
     ensures { buf.new ≡ tabulate mem (λ i. cond (ltb i from) (pos 0) (smulwb inv_gain_q30 (get_or residual.now i (pos 0)))) ++ drop mem buf.old }
 {
+    // A zip over the parts of both leaves the proof without the elements.
     for i in from..mem {
         buf[i] = silk_smulwb(inv_gain_q30, wide16(residual[i]));
     }
@@ -229,12 +194,12 @@ fn rewhiten(
     lag: usize,
     inv_gain_q30: i32,
 )
-    requires { ((d ≡ 10) ⊎ (d ≡ 16)) × (lag + d + 2 ≤ mem) × (mem ≤ 320) × (mem ≤ length buf.old) × (mem ≤ length out_buf.now) × ((i : ℕ) → get_or buf.old i (pos 0) ≡ pos 0) }
+    requires { ((d ≡ 10) ⊎ (d ≡ 16)) × (lag + d + 2 ≤ mem) × (mem ≤ 320) × (mem ≤ length buf.old) × (mem ≤ length out_buf.now) × AllZero buf.old }
     ensures { buf.new ≡ tabulate mem (λ i. cond (ltb i (mem - lag - 2)) (pos 0) (smulwb inv_gain_q30 (residual (take mem out_buf.now) a.now d i))) ++ drop mem buf.old }
 {
     let from = mem - lag - 2;
     let start = from - d;
-    let mut s_ltp = no_samples();
+    let mut s_ltp = [0; 320];
     silk_lpc_analysis_filter(&mut s_ltp[start..mem], &out_buf[start..mem], a, d);
     divide(buf, &s_ltp, from, mem, inv_gain_q30);
 }
@@ -265,6 +230,7 @@ fn excite(
     let taps = k.taps;
     let scale = k.scale_q14;
     let mut seed = k.seed;
+    // By index, since each prediction reads what the turns before it wrote.
     for i in 0..n {
         seed = silk_rand(seed);
         let noise = exc[from + noise_index(seed)];
@@ -293,20 +259,18 @@ fn subframe(
     rand_gain_q15: i32,
 ) -> Carried
     requires { (from + 128 ≤ length exc.now) × (8 ≤ rate_of khz) × (20 * rate_of khz ≤ at) × (at + 5 * rate_of khz ≤ length buf.old)
-        × (within (pos (512 * rate_of khz)) (pos (4608 * rate_of khz)) k.pitch_q8 ≡ true) }
+        × (pitched (rate_of khz) k.pitch_q8 ≡ true) }
     ensures { voice_of (take (at + 5 * rate_of khz) buf.new) result ≡ faded_voice (rate_of khz) harm_gain_q15 rand_gain_q15
         (excited_times exc.now from (nat_abs (lag_of k.pitch_q8)) (5 * rate_of khz) (voice_of (take at buf.old) k)) }
 {
     let pitch = k.pitch_q8;
     let lag = lag_of(pitch) as usize;
     let seed = excite(buf, exc, from, k, lag, at, Rate::subfr_length(khz));
-    let held = k.taps;
-    let taps = faded_taps(held, harm_gain_q15);
     Carried {
-        taps: taps,
+        taps: faded_taps(k.taps, harm_gain_q15),
         scale_q14: faded(rand_gain_q15, k.scale_q14),
         pitch_q8: drifted(pitch, pitch_max_q8(khz)),
-        seed: seed,
+        seed,
     }
 }
 
@@ -322,13 +286,14 @@ fn subframes(
     rand_gain_q15: i32,
 ) -> Carried
     requires { (from + 128 ≤ length exc.now) × (8 ≤ rate_of khz) × (n ≤ 4) × (length buf.old ≡ 640)
-        × (within (pos (512 * rate_of khz)) (pos (4608 * rate_of khz)) k0.pitch_q8 ≡ true) }
-    ensures { voice_of (take (20 * rate_of khz + 5 * rate_of khz * n) buf.new) result ≡ voices (record { rate = rate_of khz; subframes = n }) exc.now from harm_gain_q15 rand_gain_q15 n
+        × (pitched (rate_of khz) k0.pitch_q8 ≡ true) }
+    ensures { voice_of (take (20 * rate_of khz + 5 * rate_of khz * n) buf.new) result ≡ voices (shape_at khz n) exc.now from harm_gain_q15 rand_gain_q15 n
         (voice_of (take (20 * rate_of khz) buf.old) k0) }
 {
     let mem = Rate::ltp_mem_length(khz);
     let l = Rate::subfr_length(khz);
     let mut k = k0;
+    // By index, since each subframe reads the whole buffer before its place.
     for j in 0..n {
         let at = mem + l * j;
         k = subframe(buf, exc, from, k, khz, at, harm_gain_q15, rand_gain_q15);
@@ -353,11 +318,11 @@ fn synthesise(
 {
     let base = mem - 16;
     let end = mem + len;
-    copy32_at(buf, base, &memory);
+    copy_at(buf, base, &memory);
     synthesis(&mut buf[base..end], a, d);
     scale_out(&mut xq[..len], &buf[mem..end], gain_q16);
     let mut after = memory;
-    copy32_at(&mut after, 0, &buf[end - 16..end]);
+    copy_at(&mut after, 0, &buf[end - 16..end]);
     after
 }
 
@@ -365,13 +330,12 @@ fn synthesise(
 fn starting(loss_cnt: i32, prev_signal_type: i32, h: SilkPLCState) -> Carried
     ensures { result ≡ record { taps = h.ltp_coef_q14; scale_q14 = noise_scale loss_cnt prev_signal_type h; pitch_q8 = h.pitch_l_q8; seed = h.rand_seed } }
 {
-    let taps = h.ltp_coef_q14;
     Carried {
-        taps: taps,
+        taps: h.ltp_coef_q14,
         scale_q14: noise_scale(
             loss_cnt,
             prev_signal_type,
-            &taps,
+            &h.ltp_coef_q14,
             h.prev_ltp_scale_q14,
             h.rand_scale_q14,
         ),
@@ -380,23 +344,22 @@ fn starting(loss_cnt: i32, prev_signal_type: i32, h: SilkPLCState) -> Carried
     }
 }
 
-fn rewhitened(
-    buf: &mut [i32],
-    out_buf: &[i16],
-    a: &[i16; 16],
-    h: SilkPLCState,
-    khz: i32,
-    n: usize,
-    d: usize,
-)
-    requires { ((d ≡ 10) ⊎ (d ≡ 16)) × (d ≡ order_of (rate_of khz)) × (d + 2 ≤ 2 * rate_of khz) × (length out_buf.now ≡ 480) × (length buf.old ≡ 640)
-        × ((i : ℕ) → get_or buf.old i (pos 0) ≡ pos 0) × (within (pos (512 * rate_of khz)) (pos (4608 * rate_of khz)) h.pitch_l_q8 ≡ true) }
-    ensures { take (20 * rate_of khz) buf.new ≡ rewhitened (record { rate = rate_of khz; subframes = n }) out_buf.now a.now h }
+fn rewhitened(buf: &mut [i32], out_buf: &[i16], a: &[i16; 16], h: SilkPLCState, khz: i32)
+    requires { (is_rate khz ≡ true) × (length out_buf.now ≡ 480) × (length buf.old ≡ 640) × AllZero buf.old × (pitched (rate_of khz) h.pitch_l_q8 ≡ true) }
+    ensures { (n : ℕ) → take (20 * rate_of khz) buf.new ≡ rewhitened (shape_at khz n) out_buf.now a.now h }
 {
-    let gains = h.prev_gain_q16;
     let lag = lag_of(h.pitch_l_q8) as usize;
     let mem = Rate::ltp_mem_length(khz);
-    rewhiten(buf, out_buf, a, d, mem, lag, inverse_gain(gains[1]));
+    let d = Rate::lpc_order(khz);
+    rewhiten(
+        buf,
+        out_buf,
+        a,
+        d,
+        mem,
+        lag,
+        inverse_gain(h.prev_gain_q16[1]),
+    );
 }
 
 // The frame's excitation, and what is carried on.
@@ -412,17 +375,16 @@ fn voice(
     h: SilkPLCState,
     khz: i32,
     n: usize,
-    d: usize,
 ) -> Carried
-    requires { (from + 128 ≤ length exc.now) × ((d ≡ 10) ⊎ (d ≡ 16)) × (d ≡ order_of (rate_of khz)) × (d + 2 ≤ 2 * rate_of khz) × (8 ≤ rate_of khz) × (n ≤ 4)
-        × (length out_buf.now ≡ 480) × (length buf.old ≡ 640)
-        × ((i : ℕ) → get_or buf.old i (pos 0) ≡ pos 0) × (within (pos (512 * rate_of khz)) (pos (4608 * rate_of khz)) h.pitch_l_q8 ≡ true) }
+    requires { (from + 128 ≤ length exc.now) × (is_rate khz ≡ true) × (n ≤ 4) × (length out_buf.now ≡ 480) × (length buf.old ≡ 640)
+        × AllZero buf.old × (pitched (rate_of khz) h.pitch_l_q8 ≡ true) }
     ensures { voice_of (take (20 * rate_of khz + 5 * rate_of khz * n) buf.new) result
-        ≡ voice_by (record { rate = rate_of khz; subframes = n }) loss_cnt prev_signal_type edition exc.now out_buf.now a.now from h }
+        ≡ voice_by (shape_at khz n) loss_cnt prev_signal_type edition exc.now out_buf.now a.now from h }
 {
-    rewhitened(buf, out_buf, a, h, khz, n, d);
+    rewhitened(buf, out_buf, a, h, khz);
     let k = starting(loss_cnt, prev_signal_type, h);
     let harm = harm_gain(loss_cnt);
+    let d = Rate::lpc_order(khz);
     let noise = noise_gain(loss_cnt, prev_signal_type, edition, a, d);
     subframes(buf, exc, from, k, khz, n, harm, noise)
 }
@@ -432,6 +394,7 @@ fn held_after(h: SilkPLCState, k: Carried, a: [i16; 16]) -> SilkPLCState
     ensures { result ≡ hold h k.pitch_q8 k.taps a k.seed k.scale_q14 h.prev_ltp_scale_q14 h.prev_gain_q16 h.fs_khz h.nb_subfr h.subfr_length }
 {
     let taps = k.taps;
+    // With `..h` the proof would have to read back each number that is kept.
     let mut t = h;
     t.pitch_l_q8 = k.pitch_q8;
     t.ltp_coef_q14 = taps;
@@ -461,16 +424,15 @@ fn conceal(
     from: usize,
     khz: i32,
     n: usize,
-    d: usize,
     xq: &mut [i16],
 ) -> Concealed
-    requires { (from + 128 ≤ length exc.now) × ((d ≡ 10) ⊎ (d ≡ 16)) × (d ≡ order_of (rate_of khz)) × (d + 2 ≤ 2 * rate_of khz) × (8 ≤ rate_of khz) × (n ≤ 4)
-        × (length out_buf.now ≡ 480) × (10 * rate_of khz ≤ 5 * rate_of khz * n) × (5 * rate_of khz * n ≤ 20 * rate_of khz) × (5 * rate_of khz * n ≤ length xq.old)
-        × (within (pos (512 * rate_of khz)) (pos (4608 * rate_of khz)) h.pitch_l_q8 ≡ true) }
-    ensures { (result ≡ concealed_by (record { rate = rate_of khz; subframes = n }) (voice_by (record { rate = rate_of khz; subframes = n }) loss_cnt prev_signal_type edition exc.now out_buf.now a from h) memory a h)
-        × (xq.new ≡ map (played (later_gain h)) (drop 16 (signal_by (record { rate = rate_of khz; subframes = n }) (voice_by (record { rate = rate_of khz; subframes = n }) loss_cnt prev_signal_type edition exc.now out_buf.now a from h) memory a)) ++ drop (5 * rate_of khz * n) xq.old) }
+    requires { (from + 128 ≤ length exc.now) × (is_rate khz ≡ true) × (n ≤ 4) × (length out_buf.now ≡ 480)
+        × (10 * rate_of khz ≤ 5 * rate_of khz * n) × (5 * rate_of khz * n ≤ 20 * rate_of khz) × (5 * rate_of khz * n ≤ length xq.old)
+        × (pitched (rate_of khz) h.pitch_l_q8 ≡ true) }
+    ensures { (result ≡ concealed_by (shape_at khz n) (voice_by (shape_at khz n) loss_cnt prev_signal_type edition exc.now out_buf.now a from h) memory a h)
+        × (xq.new ≡ map (played (later_gain h)) (drop 16 (signal_by (shape_at khz n) (voice_by (shape_at khz n) loss_cnt prev_signal_type edition exc.now out_buf.now a from h) memory a)) ++ drop (5 * rate_of khz * n) xq.old) }
 {
-    let mut buf = no_history();
+    let mut buf = [0; 640];
     let k = voice(
         &mut buf,
         loss_cnt,
@@ -483,22 +445,19 @@ fn conceal(
         h,
         khz,
         n,
-        d,
     );
-    let gains = h.prev_gain_q16;
     let after = synthesise(
         &mut buf,
         memory,
         &a,
-        d,
+        Rate::lpc_order(khz),
         Rate::ltp_mem_length(khz),
         Rate::subfr_length(khz) * n,
-        gains[1],
+        h.prev_gain_q16[1],
         xq,
     );
-    let plc = held_after(h, k, a);
     Concealed {
-        plc: plc,
+        plc: held_after(h, k, a),
         memory: after,
         lag: lag_of(k.pitch_q8),
     }
@@ -510,10 +469,9 @@ fn place(exc: &[i32], h: SilkPLCState, khz: i32, n: usize) -> usize
     ensures { result ≡ place_from (heard_by (get_or h.prev_gain_q16 0 (pos 0)) (take (5 * rate_of khz) (drop ((0 + n - 2) * (5 * rate_of khz)) exc.now)))
         (heard_by (get_or h.prev_gain_q16 1 (pos 0)) (take (5 * rate_of khz) (drop ((1 + n - 2) * (5 * rate_of khz)) exc.now))) h.nb_subfr h.subfr_length }
 {
-    let gains = h.prev_gain_q16;
     noise_place(
         exc,
-        gains,
+        h.prev_gain_q16,
         Rate::subfr_length(khz),
         n,
         h.nb_subfr as usize,
@@ -527,34 +485,31 @@ fn conceal_ready(
     h: SilkPLCState,
     khz: i32,
     n: usize,
-    d: usize,
     xq: &mut [i16],
 ) -> Concealed
-    requires { ((d ≡ 10) ⊎ (d ≡ 16)) × (d ≡ order_of (rate_of khz)) × (d + 2 ≤ 2 * rate_of khz) × (8 ≤ rate_of khz) × (2 ≤ n) × (n ≤ 4)
-        × (10 * rate_of khz ≤ 5 * rate_of khz * n) × (5 * rate_of khz * n ≤ 20 * rate_of khz) × (5 * rate_of khz * n ≤ length xq.old) × (plc_held (rate_of khz) h ≡ true) }
-    ensures { (result ≡ concealed_by (record { rate = rate_of khz; subframes = n }) (voice (record { rate = rate_of khz; subframes = n }) s h) s.s_lpc_q14_buf (coefficients (record { rate = rate_of khz; subframes = n }) s h) h)
-        × (xq.new ≡ concealed (record { rate = rate_of khz; subframes = n }) s h ++ drop (5 * rate_of khz * n) xq.old) }
+    requires { (is_rate khz ≡ true) × (2 ≤ n) × (n ≤ 4) × (10 * rate_of khz ≤ 5 * rate_of khz * n) × (5 * rate_of khz * n ≤ 20 * rate_of khz)
+        × (5 * rate_of khz * n ≤ length xq.old) × (plc_held (rate_of khz) h ≡ true) }
+    ensures { (result ≡ concealed_by (shape_at khz n) (voice (shape_at khz n) s h) s.s_lpc_q14_buf (coefficients (shape_at khz n) s h) h)
+        × (xq.new ≡ concealed (shape_at khz n) s h ++ drop (5 * rate_of khz * n) xq.old) }
 {
-    let exc = s.exc_q14;
-    let out_buf = s.out_buf;
-    let memory = s.s_lpc_q14_buf;
-    let prev = h.prev_lpc_q12;
-    let a = coefficients(s.first_frame_after_reset, prev, d);
-    let from = place(&exc, h, khz, n);
-    let settings = s.settings;
+    let a = coefficients(
+        s.first_frame_after_reset,
+        h.prev_lpc_q12,
+        Rate::lpc_order(khz),
+    );
+    let from = place(&s.exc_q14, h, khz, n);
     conceal(
-        &exc,
-        &out_buf,
-        memory,
+        &s.exc_q14,
+        &s.out_buf,
+        s.s_lpc_q14_buf,
         a,
         s.loss_cnt,
         s.prev_signal_type,
-        settings.edition,
+        s.settings.edition,
         h,
         from,
         khz,
         n,
-        d,
         xq,
     )
 }
@@ -565,11 +520,11 @@ fn lost_state(s: SilkDecoderState, r: Concealed) -> SilkDecoderState
     ensures { result ≡ with_plc (with_losses (with_memory s r.memory) (s.loss_cnt +ℤ pos 1)) r.plc }
 {
     let memory = r.memory;
-    let plc = r.plc;
+    // With `..s` the proof would have to read back each number that is kept.
     let mut t = s;
     t.s_lpc_q14_buf = memory;
     t.loss_cnt = add32(s.loss_cnt, 1);
-    t.s_plc = plc;
+    t.s_plc = r.plc;
     t
 }
 
@@ -577,18 +532,13 @@ fn lost_state(s: SilkDecoderState, r: Concealed) -> SilkDecoderState
 fn lagged(c: SilkDecoderControl, lag: i32) -> SilkDecoderControl
     ensures { result ≡ lagged c lag }
 {
-    let mut t = c;
-    t.pitch_l = [lag, lag, lag, lag];
-    t
+    SilkDecoderControl {
+        pitch_l: [lag; 4],
+        ..c
+    }
 }
 
-#[derive(Clone, Copy)]
-pub struct Lost {
-    pub state: SilkDecoderState,
-    pub control: SilkDecoderControl,
-}
-
-pub fn plc_conceal(s: SilkDecoderState, c: SilkDecoderControl, xq: &mut [i16]) -> Lost
+pub fn plc_conceal(s: SilkDecoderState, c: SilkDecoderControl, xq: &mut [i16]) -> Answer
     requires { (is_rate s.fs_khz ≡ true) × (is_count s.nb_subfr ≡ true) × (plc_fits (rate_of s.fs_khz) s.s_plc ≡ true)
         × (le_z (pos 0) s.loss_cnt ≡ true) × (eq_ℤ s.loss_cnt (pos 2147483647) ≡ false) × (frame_length (shape_of s) ≤ length xq.old) }
     ensures { (result ≡ record { state = (plc_conceal (shape_of s) s c).state; control = (plc_conceal (shape_of s) s c).control })
@@ -596,35 +546,22 @@ pub fn plc_conceal(s: SilkDecoderState, c: SilkDecoderControl, xq: &mut [i16]) -
 {
     let khz = s.fs_khz;
     let n = count_of(s.nb_subfr);
-    let held = s.s_plc;
-    let h = ready(held, khz, n);
-    let r = conceal_ready(s, h, khz, n, Rate::lpc_order(khz), xq);
-    let state = lost_state(s, r);
-    let control = lagged(c, r.lag);
-    Lost {
-        state: state,
-        control: control,
+    let h = ready(s.s_plc, khz, n);
+    let r = conceal_ready(s, h, khz, n, xq);
+    Answer {
+        state: lost_state(s, r),
+        control: lagged(c, r.lag),
     }
 }
 
 // A lost frame as a call: refused, it changes nothing.
-pub fn silk_plc_lost(s: SilkDecoderState, c: SilkDecoderControl, xq: &mut [i16]) -> Answer
+pub fn silk_plc_lost(
+    s: SilkDecoderState,
+    c: SilkDecoderControl,
+    xq: &mut [i16],
+) -> Result<Answer, Refusal>
     ensures { (result ≡ plc_lost s c xq.old) × (xq.new ≡ plc_lost_output s c xq.old) }
 {
-    let refusal = judge::plc_lost(s, xq.len());
-    if refusal::number(refusal) != 0 {
-        return Answer {
-            refusal,
-            state: s,
-            control: c,
-        };
-    }
-    let r = plc_conceal(s, c, xq);
-    let state = r.state;
-    let control = r.control;
-    Answer {
-        refusal,
-        state,
-        control,
-    }
+    judge::plc_lost(s, xq.len())?;
+    Ok(plc_conceal(s, c, xq))
 }

@@ -8,17 +8,15 @@ ghost use Rattle.sigproc.specs.Energy.{sum_sqr_shift};
 ghost use Rattle.shape.specs.Shape.{shape, rate_of, count_of};
 ghost use Rattle.decoder.specs.Signals.{signal_number};
 ghost use Rattle.decoder.specs.State.{shape_of};
-ghost use Rattle.plc.specs.Hold.{plc_ready};
+ghost use Rattle.plc.specs.Hold.{shape_at, plc_ready};
 ghost use Rattle.plc.specs.Update.{stronger, strongest, scaled_tap, pulse_of, middle, plc_updated, updated_by, plc_update};
 ghost use Rattle.plc.specs.Answer.{plc_received};
 ghost use Rattle.plc.specs.Conceal.{heard_by, older_smaller, place_from};
 
-use decoder::{
-    Params, Signal, SilkDecoderControl, SilkDecoderState, SilkPLCState, StateAnswer, is_voiced,
-    signal_number,
-};
+use decoder::{Params, Signal, SilkDecoderControl, SilkDecoderState, SilkPLCState, is_voiced};
 use judge::tap_sum;
 use macros::{silk_div32, silk_max_32, silk_smulbb, silk_smulww};
+use refusal::Refusal;
 use shape::{Rate, rate_of};
 use sigproc::{Energy, silk_sum_sqr_shift, with_front};
 use word::{low16, mul32, sat16, shl32, shr32, wide8};
@@ -26,12 +24,13 @@ use word::{low16, mul32, sat16, shl32, shr32, wide8};
 // If its rate differs, concealment resets.
 pub fn ready(h: SilkPLCState, khz: i32, subframes: usize) -> SilkPLCState
     requires { subframes ≤ 4 }
-    ensures { result ≡ plc_ready (record { rate = rate_of khz; subframes = subframes }) h }
+    ensures { result ≡ plc_ready (shape_at khz subframes) h }
 {
     let rate = rate_of(khz) as i32;
     if rate == h.fs_khz {
         return h;
     }
+    // With `..h` the proof would have to read back each number that is kept.
     let mut t = h;
     t.pitch_l_q8 = (Rate::subfr_length(khz) * subframes * 128) as i32;
     t.prev_gain_q16 = [65536, 65536];
@@ -53,22 +52,16 @@ fn heard(part: &mut [i16], exc: &[i32], gain_q16: i32)
     ensures { part.new ≡ heard_by gain_q16 exc.now }
 {
     let gain_q10 = shr32(gain_q16, 6);
-    for i in 0..exc.len() {
-        part[i] = heard_sample(exc[i], gain_q10);
+    for (i, x) in part.iter_mut().enumerate() {
+        *x = heard_sample(exc[i], gain_q10);
     }
-}
-
-fn zeros80() -> [i16; 80]
-    ensures { result ≡ replicate 80 (pos 0) }
-{
-    [0; 80]
 }
 
 fn heard_energy(exc: &[i32], at: usize, l: usize, gain_q16: i32) -> Energy
     requires { (1 ≤ l) × (l ≤ 80) × (at + l ≤ length exc.now) }
     ensures { result ≡ sum_sqr_shift (heard_by gain_q16 (take l (drop at exc.now))) }
 {
-    let mut part = zeros80();
+    let mut part = [0; 80];
     let end = at + l;
     heard(&mut part[..l], &exc[at..end], gain_q16);
     silk_sum_sqr_shift(&part[..l])
@@ -132,11 +125,12 @@ fn strongest_subframe(
     pitch: i32,
 ) -> Strongest
     requires { (1 ≤ subframes) × (subframes ≤ 4) }
-    ensures { result ≡ strongest (record { rate = rate_of khz; subframes = subframes }) lags.now taps.now pitch subframes }
+    ensures { result ≡ strongest (shape_at khz subframes) lags.now taps.now pitch subframes }
 {
     let l = Rate::subfr_length(khz);
     let last = lags[subframes - 1];
     let mut b = Strongest { gain: 0, pitch };
+    // By index: the turn counts from the newest subframe, and gives its distance in samples.
     for j in 0..subframes {
         let k = subframes - 1 - j;
         let start = (j * l) as i32;
@@ -186,12 +180,10 @@ pub fn pitch_max_q8(khz: i32) -> i32
 
 fn pulse_of(voiced: bool, c: SilkDecoderControl, khz: i32, subframes: usize, pitch: i32) -> Pulse
     requires { (1 ≤ subframes) × (subframes ≤ 4) }
-    ensures { result ≡ pulse_of (record { rate = rate_of khz; subframes = subframes }) voiced c pitch }
+    ensures { result ≡ pulse_of (shape_at khz subframes) voiced c pitch }
 {
     if voiced {
-        let lags = c.pitch_l;
-        let taps = c.ltp_coef_q14;
-        let b = strongest_subframe(&lags, &taps, khz, subframes, pitch);
+        let b = strongest_subframe(&c.pitch_l, &c.ltp_coef_q14, khz, subframes, pitch);
         return Pulse {
             tap: scaled_tap(b.gain),
             pitch: b.pitch,
@@ -231,17 +223,13 @@ pub fn plc_updated(
 {
     let n = shape::count_of(nb_subfr);
     let b = pulse_of(voiced, c, khz, n, h.pitch_l_q8);
-    let lpc = h.prev_lpc_q12;
-    let gains = c.gains_q16;
-    let taps = middle(b.tap);
-    let coefs = with_front(lpc, row, Rate::lpc_order(khz));
-    let last = last_gains(gains, n);
+    // With `..h` the proof would have to read back each number that is kept.
     let mut t = h;
     t.pitch_l_q8 = b.pitch;
-    t.ltp_coef_q14 = taps;
-    t.prev_lpc_q12 = coefs;
+    t.ltp_coef_q14 = middle(b.tap);
+    t.prev_lpc_q12 = with_front(h.prev_lpc_q12, row, Rate::lpc_order(khz));
     t.prev_ltp_scale_q14 = low16(c.ltp_scale_q14);
-    t.prev_gain_q16 = last;
+    t.prev_gain_q16 = last_gains(c.gains_q16, n);
     t.nb_subfr = n as i32;
     t.subfr_length = Rate::subfr_length(khz) as i32;
     t
@@ -259,16 +247,15 @@ pub fn received(
     requires { 2 ≤ count_of nb_subfr }
     ensures { result ≡ updated_by (shape khz nb_subfr) signal c rows held }
 {
-    let row = rows[1];
     let h = ready(held, khz, shape::count_of(nb_subfr));
-    plc_updated(h, khz, nb_subfr, is_voiced(signal), c, row)
+    plc_updated(h, khz, nb_subfr, is_voiced(signal), c, rows[1])
 }
 
 // The number of a signal type, in 32 bits.
 pub fn type_number(signal: Signal) -> i32
     ensures { result ≡ signal_number signal }
 {
-    wide8(signal_number(signal))
+    wide8(i8::from(signal))
 }
 
 fn plc_update(
@@ -280,11 +267,10 @@ fn plc_update(
     requires { 2 ≤ count_of s.nb_subfr }
     ensures { result ≡ plc_update (shape_of s) s signal c rows }
 {
-    let held = s.s_plc;
-    let p = received(held, s.fs_khz, s.nb_subfr, signal, c, rows);
+    // With `..s` the proof would have to read back each number that is kept.
     let mut t = s;
     t.prev_signal_type = type_number(signal);
-    t.s_plc = p;
+    t.s_plc = received(s.s_plc, s.fs_khz, s.nb_subfr, signal, c, rows);
     t
 }
 
@@ -294,14 +280,9 @@ pub fn silk_plc_received(
     q: Params,
     c: SilkDecoderControl,
     rows: [[i16; 16]; 2],
-) -> StateAnswer
+) -> Result<SilkDecoderState, Refusal>
     ensures { result ≡ plc_received s q c rows }
 {
-    let refusal = judge::plc_received(s, q, c);
-    if refusal::number(refusal) != 0 {
-        return StateAnswer { refusal, state: s };
-    }
-    let signal = q.signal;
-    let state = plc_update(s, signal, c, rows);
-    StateAnswer { refusal, state }
+    judge::plc_received(s, q, c)?;
+    Ok(plc_update(s, q.signal, c, rows))
 }

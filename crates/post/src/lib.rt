@@ -13,6 +13,7 @@ use layout::frame::{short_call, short_frame};
 use layout::short_state;
 use refusal::code;
 
+#[tactic(auto, unfolding(crate::specs::Stages::set_up_call, crate::specs::Calls::called))]
 fn set_up(
     rate: i32,
     subframes: i32,
@@ -53,6 +54,7 @@ pub fn post_set_up_with(
     set_up(rate, subframes, settings, words, halves)
 }
 
+#[tactic(auto, unfolding(crate::specs::Stages::frame_call, crate::specs::Calls::called))]
 pub fn post_frame(
     words: &mut [i32],
     halves: &mut [i16],
@@ -77,6 +79,7 @@ pub fn post_played(rate: i32, subframes: i32, output: &[i16]) -> i32
     part.len() as i32
 }
 
+#[tactic(auto, unfolding(crate::specs::Stages::core_call, crate::specs::Calls::called))]
 pub fn post_core(
     words: &mut [i32],
     halves: &mut [i16],
@@ -94,6 +97,7 @@ pub fn post_core(
     code(stages::core(words, halves, frame, coefs, pulses, output))
 }
 
+#[tactic(auto, unfolding(crate::specs::Stages::plc_received_call, crate::specs::Calls::called))]
 pub fn post_plc_received(words: &mut [i32], halves: &mut [i16], frame: &[i32], coefs: &[i16]) -> i32
     ensures { record { answer = result; after = slices words.new halves.new frame.now coefs.now [] [] }
         ≡ plc_received_call (slices words.old halves.old frame.now coefs.now [] []) }
@@ -104,6 +108,7 @@ pub fn post_plc_received(words: &mut [i32], halves: &mut [i16], frame: &[i32], c
     code(stages::plc_received(words, halves, frame, coefs))
 }
 
+#[tactic(auto, unfolding(crate::specs::Stages::plc_lost_call, crate::specs::Calls::called))]
 pub fn post_plc_lost(
     words: &mut [i32],
     halves: &mut [i16],
@@ -119,6 +124,7 @@ pub fn post_plc_lost(
     code(stages::plc_lost(words, halves, frame, output))
 }
 
+#[tactic(auto, unfolding(crate::specs::Stages::glue_call, crate::specs::Calls::called))]
 pub fn post_glue(words: &mut [i32], halves: &mut [i16], buffer: &mut [i16], n: usize) -> i32
     ensures { record { answer = result; after = slices words.new halves.new [] [] [] buffer.new }
         ≡ glue_call n (slices words.old halves.old [] [] [] buffer.old) }
@@ -129,6 +135,7 @@ pub fn post_glue(words: &mut [i32], halves: &mut [i16], buffer: &mut [i16], n: u
     code(stages::glue(words, halves, buffer, n))
 }
 
+#[tactic(auto, unfolding(crate::specs::Stages::noise_call, crate::specs::Calls::called))]
 pub fn post_noise(
     words: &mut [i32],
     halves: &mut [i16],

@@ -11,11 +11,11 @@ use lib.ListN.{length, drop}
 use Rattle.announcement.specs.Rising.{rising}
 use Rattle.announcement.proofs.Rises.{answered, exactly}
 use Rattle.announcement.proofs.Taken.{never_nine}
-use Rattle.post_filters.specs.Calls.{called, filter_call, rising_call}
+use Rattle.post_filters.specs.Calls.{called, given, filter_call, rising_call}
 use Rattle.post_filters.specs.Claims.{RisingTold}
 
 call : (lines lent : List ℤ) (d : ℕ) → (d ≡ 10) ⊎ (d ≡ 16) → d ≤ length lines → 1 ≤ length lent → rising_call lines d lent ≡ record { answer = pos 0; slice = cond (rising lines d) (pos 1) (pos 0) ∷ drop 1 lent }
-unfolding rising_call called
+unfolding rising_call called given
 call lines lent d o h k = rw (answered lines d o h, le-ltb (length lent) 1 k) refl
 
 one-is : (b : Bool) → cond b (pos 1) (pos 0) ≡ pos 1 → b ≡ true

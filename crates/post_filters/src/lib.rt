@@ -1,42 +1,31 @@
 // The functions of filters that a Rust program links, and a C program by post_filters_c.
 #![tactic(auto)]
 
-ghost use Rattle.std.specs.Prelude.{◌≡◌, cond, ◌++◌, ◌≤◌, pos, length, drop};
+ghost use Rattle.std.specs.Prelude.{◌≡◌};
 ghost use Rattle.post_filters.specs.Calls.{stability_call, sentence_call, filter_call, cosine_call, rising_call};
 ghost use Rattle.post_filters.specs.Claims.{RisingTold};
 
 use announcement::{lsf_cos_at, rising_check};
 use nlsf::silk_nlsf2a_under;
-use refusal::{code, number};
+use refusal::code;
 use sentence::sentence_of;
 use stability::{answer_number, answer_value, silk_lpc_inverse_pred_gain_under};
-use word::wide16;
 
-// 64 bytes to the front of a slice.
-fn put_letters(text: &mut [u8], letters: [u8; 64])
-    requires { 64 ≤ length text.old }
-    ensures { text.new ≡ letters ++ drop 64 text.old }
-{
-    for i in 0..64usize {
-        text[i] = letters[i];
-    }
-}
-
+// A slice that is too short is answered -1, a call that is refused the row's number.
 pub fn post_stability(coefficients: &[i16], order: usize, edition: i32, answer: &mut [i32]) -> i32
     ensures { record { answer = result; slice = answer.exit.now } ≡ stability_call coefficients.now order edition answer.entry.now }
 {
     if answer.len() < 2 {
         return -1;
     }
-    let t = silk_lpc_inverse_pred_gain_under(coefficients, order, edition);
-    let refusal = t.refusal;
-    let s = t.answer;
-    if number(refusal) != 0 {
-        return code(refusal);
+    match silk_lpc_inverse_pred_gain_under(coefficients, order, edition) {
+        Ok(s) => {
+            answer[0] = i32::from(answer_number(s));
+            answer[1] = answer_value(s);
+            0
+        }
+        Err(refusal) => i32::from(refusal.number()),
     }
-    answer[0] = answer_number(s) as i32;
-    answer[1] = answer_value(s);
-    0
 }
 
 pub fn post_sentence(coefficients: &[i16], order: usize, edition: i32, text: &mut [u8]) -> i32
@@ -45,16 +34,14 @@ pub fn post_sentence(coefficients: &[i16], order: usize, edition: i32, text: &mu
     if text.len() < 64 {
         return -1;
     }
-    let t = silk_lpc_inverse_pred_gain_under(coefficients, order, edition);
-    let refusal = t.refusal;
-    let s = t.answer;
-    if number(refusal) != 0 {
-        return code(refusal);
+    match silk_lpc_inverse_pred_gain_under(coefficients, order, edition) {
+        Ok(s) => {
+            let sentence = sentence_of(s);
+            text[..64].copy_from_slice(&sentence.letters);
+            0
+        }
+        Err(refusal) => i32::from(refusal.number()),
     }
-    let sentence = sentence_of(s);
-    let letters = sentence.letters;
-    put_letters(text, letters);
-    0
 }
 
 pub fn post_filter(coefficients: &mut [i16], lines: &[i16], order: usize, edition: i32) -> i32
@@ -69,20 +56,13 @@ pub fn post_cosine(place: usize, value: &mut [i32]) -> i32
     if value.len() < 1 {
         return -1;
     }
-    let t = lsf_cos_at(place);
-    let refusal = t.refusal;
-    if number(refusal) != 0 {
-        return code(refusal);
+    match lsf_cos_at(place) {
+        Ok(cosine) => {
+            value[0] = i32::from(cosine);
+            0
+        }
+        Err(refusal) => i32::from(refusal.number()),
     }
-    value[0] = wide16(t.value);
-    0
-}
-
-// Yes and no as numbers.
-fn yes(b: bool) -> i32
-    ensures { result ≡ cond b (pos 1) (pos 0) }
-{
-    if b { 1 } else { 0 }
 }
 
 pub fn post_rising(lines: &[i16], order: usize, answer: &mut [i32]) -> i32
@@ -91,13 +71,13 @@ pub fn post_rising(lines: &[i16], order: usize, answer: &mut [i32]) -> i32
     if answer.len() < 1 {
         return -1;
     }
-    let t = rising_check(lines, order);
-    let refusal = t.refusal;
-    if number(refusal) != 0 {
-        return code(refusal);
+    match rising_check(lines, order) {
+        Ok(rising) => {
+            answer[0] = i32::from(rising);
+            0
+        }
+        Err(refusal) => i32::from(refusal.number()),
     }
-    answer[0] = yes(t.rising);
-    0
 }
 
 // post_rising writes 1 exactly if the lines rise, and then post_filter does not answer 9 for them.

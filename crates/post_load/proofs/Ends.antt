@@ -1,13 +1,14 @@
 -- A call's ends.
 use Prim.Native.Nat.{ℕ, ◌≤◌}
-use mathlib.Core.Path.{◌≡◌, refl}
-use mathlib.Core.Bool.{true, false}
+use mathlib.Core.Path.{◌≡◌, refl, sym, ◌∙◌}
+use mathlib.Core.Bool.{true, false, false≢true}
 use mathlib.Core.List.{List}
-use borrow.Author.Tests.{ltb-false, ne_eqb}
+use borrow.Author.Tests.{ltb-false}
 use lib.Dec.{ltb}
 use lib.IntN.{ℤ, pos, negsuc}
 use lib.ListN.{length}
-use Rattle.refusal.specs.Refusals.{refusal_number}
+use Rattle.std.specs.Prelude.{Ok, Err, is_ok}
+use Rattle.refusal.specs.Refusals.{Judged, code_of, if_accepted}
 use Rattle.load.specs.Load.{before, load_refusal}
 use Rattle.post_load.specs.Calls.{called, short_load, framed, coefficiented, pulsed, load_frame_call}
 use Rattle.word.proofs.Rows.{neither}
@@ -25,13 +26,31 @@ module _ (khz nb seed : ℤ) (n : ℕ) (frame coefs pulses : List ℤ) where
   unfolding load_frame_call
   too_short e = rw e refl
 
-  module _ (s : short_load (length frame) (length coefs) (length pulses) ≡ false) where
-    pub refused : (refusal_number (load_refusal khz nb n) ≡ 0 → ⊥)
-        → called (pos (refusal_number (load_refusal khz nb n))) frame coefs pulses ≡ load_frame_call khz nb seed n frame coefs pulses
+  -- the answer and the slices, judged and played or left
+  module _ (s : short_load (length frame) (length coefs) (length pulses) ≡ false) (j : Judged) (e : j ≡ load_refusal khz nb n) where
+    judged : called (pos (code_of j)) (if_accepted j (framed khz nb (before seed n) frame) frame) (if_accepted j (coefficiented khz (before seed n) coefs) coefs)
+        (if_accepted j (pulsed (before seed n) pulses) pulses)
+        ≡ load_frame_call khz nb seed n frame coefs pulses
     unfolding load_frame_call
-    refused z = rw (s, ne_eqb (refusal_number (load_refusal khz nb n)) 0 z) refl
+    judged = rw (s, e) refl
 
-    pub accepted : refusal_number (load_refusal khz nb n) ≡ 0
-        → let x = before seed n in called (pos 0) (framed khz nb x frame) (coefficiented khz x coefs) (pulsed x pulses) ≡ load_frame_call khz nb seed n frame coefs pulses
-    unfolding load_frame_call
-    accepted e = rw (s, e) refl
+    pub refused : is_ok j ≡ false → called (pos (code_of j)) frame coefs pulses ≡ load_frame_call khz nb seed n frame coefs pulses
+    refused h = left j h ∙ judged
+      where
+        left : (i : Judged) → is_ok i ≡ false
+            → called (pos (code_of j)) frame coefs pulses
+            ≡ called (pos (code_of j)) (if_accepted i (framed khz nb (before seed n) frame) frame) (if_accepted i (coefficiented khz (before seed n) coefs) coefs)
+            (if_accepted i (pulsed (before seed n) pulses) pulses)
+        left (Ok u) z = absurd (false≢true (sym z))
+        left (Err r) z = refl
+
+    pub accepted : is_ok j ≡ true
+        → let x = before seed n in called (pos (code_of j)) (framed khz nb x frame) (coefficiented khz x coefs) (pulsed x pulses) ≡ load_frame_call khz nb seed n frame coefs pulses
+    accepted h = taken j h ∙ judged
+      where
+        taken : (i : Judged) → is_ok i ≡ true
+            → called (pos (code_of j)) (framed khz nb (before seed n) frame) (coefficiented khz (before seed n) coefs) (pulsed (before seed n) pulses)
+            ≡ called (pos (code_of j)) (if_accepted i (framed khz nb (before seed n) frame) frame) (if_accepted i (coefficiented khz (before seed n) coefs) coefs)
+            (if_accepted i (pulsed (before seed n) pulses) pulses)
+        taken (Ok u) z = refl
+        taken (Err r) z = absurd (false≢true z)

@@ -1,6 +1,6 @@
 -- What post_load_frame answers and leaves in its slices, from what it was lent.
 use Rattle.std.specs.Prelude.{ℕ, Bool, cond, ◌||◌, List, ltb, ℤ, pos, negsuc, length}
-use Rattle.refusal.specs.Refusals.{refusal_number, if_accepted}
+use Rattle.refusal.specs.Refusals.{code_of, if_accepted}
 use Rattle.sigproc.specs.Place.{put_at}
 use Rattle.shape.specs.Shape.{rate_of}
 use Rattle.layout.specs.Frame.{FRAME, COEFS}
@@ -37,4 +37,4 @@ load_frame_call khz nb seed number frame coefs pulses =
     let r = load_refusal khz nb number in
     let x = before seed number in
     cond (short_load (length frame) (length coefs) (length pulses)) (called (negsuc 0) frame coefs pulses)
-    (called (pos (refusal_number r)) (if_accepted r (framed khz nb x frame) frame) (if_accepted r (coefficiented khz x coefs) coefs) (if_accepted r (pulsed x pulses) pulses))
+    (called (pos (code_of r)) (if_accepted r (framed khz nb x frame) frame) (if_accepted r (coefficiented khz x coefs) coefs) (if_accepted r (pulsed x pulses) pulses))

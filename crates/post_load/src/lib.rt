@@ -6,20 +6,20 @@ ghost use Rattle.generator.specs.Draws.{drawn};
 ghost use Rattle.generator.specs.Leaps.{undoing};
 ghost use Rattle.post_load.specs.Calls.{called, short_load, framed, coefficiented, pulsed, load_frame_call};
 
-use decoder::either;
 use layout::frame::{COEFS, FRAME};
 use load::{
     before, control_of, is_received, lines_of, load_refusal, params_of, pulses_of, rows_of,
 };
 use numbers::{put_coefs, put_frame};
 use refusal::code;
-use sigproc::copy16_at;
+use sigproc::copy_at;
 
 // Too few numbers for a frame, or places for pulses.
+#[tactic(auto, unfolding(crate::specs::Calls::short_load))]
 fn short_load(frame: usize, coefs: usize, pulses: usize) -> bool
     ensures { result ≡ short_load frame coefs pulses }
 {
-    either(either(frame < FRAME, coefs < COEFS), pulses < 320)
+    frame < FRAME || coefs < COEFS || pulses < 320
 }
 
 // The frame whose draws follow x, put into the slices.
@@ -43,7 +43,7 @@ fn put_load(
     let p = pulses_of(x);
     put_frame(frame, is_received(x), rate, subframes, q, c);
     put_coefs(coefs, c, rows, lines);
-    copy16_at(pulses, 0, &p);
+    copy_at(pulses, 0, &p);
 }
 
 pub fn post_load_frame(
@@ -61,12 +61,11 @@ pub fn post_load_frame(
     if short_load(frame.len(), coefs.len(), pulses.len()) {
         return -1;
     }
-    let refusal = load_refusal(rate, subframes, number);
-    if refusal::number(refusal) != 0 {
-        return code(refusal);
+    let judged = load_refusal(rate, subframes, number);
+    if judged.is_ok() {
+        put_load(rate, subframes, before(seed, number), frame, coefs, pulses);
     }
-    put_load(rate, subframes, before(seed, number), frame, coefs, pulses);
-    0
+    code(judged)
 }
 
 // The generator after a number of draws, in one leap.

@@ -1,19 +1,18 @@
 -- Document 02, Note 9: a recording as it is written, and why a frame is not taken.
-use Rattle.std.specs.Prelude.{ℕ, suc, ◌+◌, ◌*◌, Bool, true, not, ◌&&◌, List, [], ◌∷◌, ◌++◌, leb, ltb, ℤ, pos, length, replicate}
+use Rattle.std.specs.Prelude.{ℕ, suc, ◌+◌, ◌*◌, Bool, true, not, ◌&&◌, List, [], ◌∷◌, ◌++◌, leb, ltb, ℤ, pos, length, replicate, codes}
 use Rattle.word.specs.Int.{eq_ℤ}
 use Rattle.le.specs.Bytes.{bytes_of, with_bytes}
-use Rattle.refusal.specs.First.{Row, ◌gives◌, first_or, first_of}
-use Rattle.refusal.specs.Letters.{letters}
-use Rattle.refusal.specs.Refusals.{if_accepted}
-use Rattle.refusal.specs.declared.Refusal.{Refusal}
+use Rattle.refusal.specs.First.{Row, ◌gives◌, first_of}
+use Rattle.refusal.specs.Refusals.{Judged, if_accepted}
 use Rattle.refusal.specs.declared.Refusal.TheVariants.{Rate, Size, Record}
 use Rattle.shape.specs.Shape.{shape, is_rate, is_count}
 use Rattle.record.specs.Recorded.{Recorded, lost, received, record_bytes}
+use Rattle.recording.specs.Rows.{first_then}
 use Rattle.recording.specs.Frames.{is_head, rate_in, count_in, described}
 
 -- record 0, which leads to record k: its next number, YARD, rate, subframes, and zeros
 unfoldable pub head_bytes : ℕ → ℤ → ℤ → List ℕ
-head_bytes k khz nb = bytes_of 2 (pos k) ++ letters "YARD" ++ bytes_of 1 khz ++ bytes_of 1 nb ++ replicate 1016 0
+head_bytes k khz nb = bytes_of 2 (pos k) ++ codes "YARD" ++ bytes_of 1 khz ++ bytes_of 1 nb ++ replicate 1016 0
 
 -- a frame's record, which leads to record k: its next number, the frame, and zeros
 unfoldable pub frame_bytes : ℕ → Recorded → List ℕ
@@ -36,16 +35,16 @@ recording_to end khz nb xs = head_bytes (link_to end 1 xs) khz nb ++ frames_to e
 abbrev pub recording_bytes : ℤ → ℤ → List Recorded → List ℕ
 recording_bytes khz nb xs = recording_to 0 khz nb xs
 
--- why a call is refused, and the bytes that it leaves
+-- how a call is judged, and the bytes that it leaves
 pub record Left : Type 0 where
-  pub refusal : Refusal
+  pub judged : Judged
   pub bytes : List ℕ
 
-abbrev pub left : Refusal → List ℕ → List ℕ → Left
-left r new old = record { refusal = r; bytes = if_accepted r new old }
+abbrev pub left : Judged → List ℕ → List ℕ → Left
+left j new old = record { judged = j; bytes = if_accepted j new old }
 
 -- a recording of no frames: 21 for too few bytes, then 1 and 2
-unfoldable pub begin_refusal : ℤ → ℤ → List ℕ → Refusal
+unfoldable pub begin_refusal : ℤ → ℤ → List ℕ → Judged
 begin_refusal khz nb b =
     first_of ((ltb (length b) 1024 gives Record) ∷ (not (is_rate khz) gives Rate) ∷ (not (is_count nb) gives Size) ∷ [])
 
@@ -70,9 +69,9 @@ head_rows khz nb b =
     ∷ []
 
 -- one frame more behind n frames: 21 for the room and the pulses, then record 0, and last 5 to 9
-unfoldable pub append_refusal : ℤ → ℤ → List ℕ → ℕ → Recorded → Refusal
+unfoldable pub append_refusal : ℤ → ℤ → List ℕ → ℕ → Recorded → Judged
 append_refusal khz nb b n x =
-    first_or ((not (has_room (length b) n && has_pulses x) gives Record) ∷ head_rows khz nb b) (described (shape khz nb) x)
+    first_then ((not (has_room (length b) n && has_pulses x) gives Record) ∷ head_rows khz nb b) (described (shape khz nb) x)
 
 -- record n leads to record n + 1, which is the new frame's, the last
 unfoldable pub appended : List ℕ → ℕ → Recorded → List ℕ

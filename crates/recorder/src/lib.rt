@@ -4,44 +4,44 @@
 
 ghost use Rattle.std.specs.Prelude.{◌≡◌, true, suc, ◌+◌, ◌*◌, ◌≤◌, pos, length};
 ghost use Rattle.le.specs.Bytes.{bytes_of, with_bytes};
-ghost use Rattle.refusal.specs.First.{first_or};
+ghost use Rattle.refusal.specs.First.{first_of};
 ghost use Rattle.record.specs.Recorded.{lost, received};
-ghost use Rattle.recorder.specs.Writing.{head_bytes, frame_bytes, has_room, head_rows, begin_of, append_of};
+ghost use Rattle.recorder.specs.Writing.{head_bytes, frame_bytes, has_room, head_rows, begin_refusal, begin_of, append_of};
 
 use chain::wide8;
-use decoder::{Params, SilkDecoderControl, both, equals};
+use decoder::{Params, SilkDecoderControl, equals};
 use judge::description;
-use le::{low_byte, put_bytes, put_zeros, signed_byte};
+use le::{Word, low_byte, put_bytes, put_zeros, signed_byte};
 use record::put_received;
-use recording::is_head;
-use refusal::{Refusal, first, number};
-
-const MARK: [u8; 4] = *b"YARD";
+use recording::{MARK, is_head};
+use refusal::{Refusal, refuse_if};
 
 fn put_head(bytes: &mut [u8], rate: i32, subframes: i32)
     requires { 1024 ≤ length bytes.old }
     ensures { bytes.new ≡ with_bytes bytes.old 0 (head_bytes 0 rate subframes) }
 {
-    let mark = MARK;
-    let shape = [low_byte(rate), low_byte(subframes)];
     put_zeros(bytes, 0, 2);
-    put_bytes(bytes, 2, &mark);
-    put_bytes(bytes, 6, &shape);
+    put_bytes(bytes, 2, &MARK);
+    put_bytes(bytes, 6, &[low_byte(rate), low_byte(subframes)]);
     put_zeros(bytes, 8, 1016);
 }
 
-// A recording of no frames.
-pub fn begin(bytes: &mut [u8], rate: i32, subframes: i32) -> Refusal
-    ensures { record { refusal = result; bytes = bytes.new } ≡ begin_of rate subframes bytes.old }
+#[tactic(auto, unfolding(crate::specs::Writing::begin_refusal, refusal::specs::First::first_of))]
+fn begin_refusal(bytes: &[u8], rate: i32, subframes: i32) -> Result<(), Refusal>
+    ensures { result ≡ begin_refusal rate subframes bytes.now }
 {
-    let from_2 = first(!shape::is_count(subframes), Refusal::Size, Refusal::Nothing);
-    let from_1 = first(!shape::is_rate(rate), Refusal::Rate, from_2);
-    let refusal = first(bytes.len() < 1024, Refusal::Record, from_1);
-    if number(refusal) != 0 {
-        return refusal;
-    }
+    refuse_if(bytes.len() < 1024, Refusal::Record)?;
+    refuse_if(!shape::is_rate(rate), Refusal::Rate)?;
+    refuse_if(!shape::is_count(subframes), Refusal::Size)
+}
+
+// A recording of no frames.
+pub fn begin(bytes: &mut [u8], rate: i32, subframes: i32) -> Result<(), Refusal>
+    ensures { record { judged = result; bytes = bytes.new } ≡ begin_of rate subframes bytes.old }
+{
+    begin_refusal(bytes, rate, subframes)?;
     put_head(bytes, rate, subframes);
-    refusal
+    Ok(())
 }
 
 #[tactic(auto, unfolding(crate::specs::Writing::has_room))]
@@ -54,23 +54,20 @@ fn has_room(bytes: usize, frames: usize) -> bool
     1024 * (frames + 2) <= bytes
 }
 
-// Record 0's rows for a frame of a shape, and what is after them.
-fn head_rows(bytes: &[u8], rate: i32, subframes: i32, other: Refusal) -> Refusal
+// Record 0's rows for a frame of a shape.
+fn head_rows(bytes: &[u8], rate: i32, subframes: i32) -> Result<(), Refusal>
     requires { 1024 ≤ length bytes.now }
-    ensures { result ≡ first_or (head_rows rate subframes bytes.now) other }
+    ensures { result ≡ first_of (head_rows rate subframes bytes.now) }
 {
-    let head = is_head(bytes);
-    let rate_ok = both(
-        shape::is_rate(signed_byte(bytes[6])),
-        equals(rate, wide8(bytes[6])),
-    );
-    let count_ok = both(
-        shape::is_count(signed_byte(bytes[7])),
-        equals(subframes, wide8(bytes[7])),
-    );
-    let from_2 = first(!count_ok, Refusal::Size, other);
-    let from_1 = first(!rate_ok, Refusal::Rate, from_2);
-    first(!head, Refusal::Record, from_1)
+    refuse_if(!is_head(bytes), Refusal::Record)?;
+    refuse_if(
+        !(shape::is_rate(signed_byte(bytes[6])) & equals(rate, wide8(bytes[6]))),
+        Refusal::Rate,
+    )?;
+    refuse_if(
+        !(shape::is_count(signed_byte(bytes[7])) & equals(subframes, wide8(bytes[7]))),
+        Refusal::Size,
+    )
 }
 
 // Record n leads to record n + 1.
@@ -78,24 +75,23 @@ fn link(bytes: &mut [u8], n: usize)
     requires { has_room (length bytes.old) n ≡ true }
     ensures { bytes.new ≡ with_bytes bytes.old (1024 * n) (bytes_of 2 (pos (suc n))) }
 {
-    let next = [(n + 1) as u8, 0];
-    put_bytes(bytes, 1024 * n, &next);
+    ((n + 1) as u16).put(bytes, 1024 * n);
 }
 
 // One lost frame more behind frames that are written.
-pub fn append_lost(bytes: &mut [u8], frames: usize, rate: i32, subframes: i32) -> Refusal
-    ensures { record { refusal = result; bytes = bytes.new } ≡ append_of rate subframes bytes.old frames lost }
+pub fn append_lost(
+    bytes: &mut [u8],
+    frames: usize,
+    rate: i32,
+    subframes: i32,
+) -> Result<(), Refusal>
+    ensures { record { judged = result; bytes = bytes.new } ≡ append_of rate subframes bytes.old frames lost }
 {
-    if !has_room(bytes.len(), frames) {
-        return Refusal::Record;
-    }
-    let refusal = head_rows(bytes, rate, subframes, Refusal::Nothing);
-    if number(refusal) != 0 {
-        return refusal;
-    }
+    refuse_if(!has_room(bytes.len(), frames), Refusal::Record)?;
+    head_rows(bytes, rate, subframes)?;
     link(bytes, frames);
     put_zeros(bytes, 1024 * (frames + 1), 1024);
-    refusal
+    Ok(())
 }
 
 // A received frame's record, the last.
@@ -127,21 +123,16 @@ pub fn append_received(
     rows: [[i16; 16]; 2],
     lines: [i16; 16],
     pulses: &[i16],
-) -> Refusal
-    ensures { record { refusal = result; bytes = bytes.new } ≡ append_of rate subframes bytes.old frames (received q c rows lines pulses.now) }
+) -> Result<(), Refusal>
+    ensures { record { judged = result; bytes = bytes.new } ≡ append_of rate subframes bytes.old frames (received q c rows lines pulses.now) }
 {
-    if !has_room(bytes.len(), frames) {
-        return Refusal::Record;
-    }
-    if pulses.len() < 320 {
-        return Refusal::Record;
-    }
-    let rows_5_to_9 = description(rate, subframes, q, c, lines);
-    let refusal = head_rows(bytes, rate, subframes, rows_5_to_9);
-    if number(refusal) != 0 {
-        return refusal;
-    }
+    refuse_if(
+        !(has_room(bytes.len(), frames) & (pulses.len() >= 320)),
+        Refusal::Record,
+    )?;
+    head_rows(bytes, rate, subframes)?;
+    description(rate, subframes, q, c, lines)?;
     link(bytes, frames);
     put_frame(bytes, 1024 * (frames + 1), q, c, rows, lines, pulses);
-    refusal
+    Ok(())
 }

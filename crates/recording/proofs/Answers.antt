@@ -1,54 +1,67 @@
 -- What is read of a recording, refused or not.
 use Prim.Native.Nat.{ℕ, ◌≤◌, ◌<◌}
-use mathlib.Core.Path.{◌≡◌, refl}
+use mathlib.Core.Path.{◌≡◌, refl, sym, ap, ◌∙◌}
 use mathlib.Core.Bool.{Bool, true, false, not, ◌&&◌, false≢true}
 use mathlib.Core.List.{List, [], ◌∷◌}
 use native.Mathlib.Omega.{arith}
-use borrow.Author.Tests.{eq-eqb, ne_eqb, not-false}
-use lib.IntN.{pos}
-use lib.ListN.{length, replicate}
-use Rattle.refusal.specs.First.{◌gives◌, first_or}
-use Rattle.refusal.specs.Refusals.{refusal_number}
+use borrow.Author.Tests.{not-false}
+use lib.ListN.{length}
+use Rattle.std.specs.Prelude.{Ok, Err}
+use Rattle.refusal.specs.First.{◌gives◌, first_of}
+use Rattle.refusal.specs.Refusals.{Judged, code_of}
 use Rattle.refusal.specs.declared.Refusal.{Refusal}
 use Rattle.refusal.specs.declared.Refusal.TheVariants.{Rate, Size, Chain, Record}
-use Rattle.refusal.proofs.Clear.{clear}
+use Rattle.refusal.proofs.Clear.{clear, answered_err, answered_ok}
 use Rattle.shape.specs.Shape.{shape, is_rate, is_count}
 use Rattle.chain.specs.Chain.{is_whole, records_in, chain_of, is_broken, on_chain, padded}
 use Rattle.chain.proofs.Steps.{whole}
 use Rattle.chain.proofs.Records.{Chained, chained, padded-length, padded-below}
 use Rattle.recording.specs.Frames.{is_head, are_frames, rate_in, count_in, frames_in, described_all, Inside}
+use Rattle.recording.specs.Rows.{first_then}
 use Rattle.recording.specs.Reading.{read_refusal, read_of}
+use Rattle.recording.proofs.Rows.{clear_then, then_err}
 
 both : (a b : Bool) → (a && b) ≡ true → (a ≡ true) × (b ≡ true)
 both true b e = (refl, e)
 both false b e = absurd (false≢true e)
 
 module _ (b : List ℕ) where
-  pub not_whole : is_whole (length b) ≡ false → read_refusal b ≡ Record
-  unfolding read_refusal first_or
-  not_whole e = rw e
+  pub not_whole : is_whole (length b) ≡ false → read_refusal b ≡ Err Record
+  unfolding read_refusal first_then
+  not_whole e = rw e refl
 
-  pub is_broken_lem : is_whole (length b) ≡ true → is_broken (chain_of b) ≡ true → read_refusal b ≡ Chain
-  unfolding read_refusal first_or
-  is_broken_lem e f = rw (e, f)
+  -- the same, as a call judges the length
+  module _ {q : Judged} {w : Bool} (j : q ≡ first_of ((not w gives Record) ∷ [])) (l : w ≡ is_whole (length b)) where
+    length-row : q ≡ first_of ((not (is_whole (length b)) gives Record) ∷ [])
+    length-row = j ∙ ap (λ (x : Bool). first_of ((not x gives Record) ∷ [])) l
+
+    pub stops : {e : Refusal} → q ≡ Err e → read_refusal b ≡ Err e
+    unfolding read_refusal
+    stops h = then_err (not (is_whole (length b)) gives Record) _ _ (sym length-row ∙ h)
+
+    pub passes : q ≡ Ok tt → is_whole (length b) ≡ true
+    passes h = not-false (is_whole (length b)) (clear ((not (is_whole (length b)) gives Record) ∷ []) (ap code_of (sym length-row ∙ h))).0
+
+  pub is_broken_lem : is_whole (length b) ≡ true → is_broken (chain_of b) ≡ true → read_refusal b ≡ Err Chain
+  unfolding read_refusal first_then
+  is_broken_lem e f = rw (e, f) refl
 
   pub by_content : is_whole (length b) ≡ true → is_broken (chain_of b) ≡ false
       → read_refusal b
-      ≡ first_or ((not (is_head b && are_frames b (on_chain (chain_of b))) gives Record) ∷ (not (is_rate (rate_in b)) gives Rate) ∷ (not (is_count (count_in b)) gives Size) ∷ [])
+      ≡ first_then ((not (is_head b && are_frames b (on_chain (chain_of b))) gives Record) ∷ (not (is_rate (rate_in b)) gives Rate) ∷ (not (is_count (count_in b)) gives Size) ∷ [])
       (described_all (shape (rate_in b) (count_in b)) (frames_in b))
-  unfolding read_refusal first_or
-  by_content e f = rw (e, f)
+  unfolding read_refusal first_then
+  by_content e f = rw (e, f) refl
 
-  pub read-refused : (r : Refusal) → read_refusal b ≡ r → (refusal_number r ≡ 0 → ⊥)
-      → record { refusal = r; rate = pos 0; subframes = pos 0; frames = 0; records = replicate 60 0 } ≡ read_of b
+  -- what is read
+  pub read-refused : {e : Refusal} → read_refusal b ≡ Err e → Err e ≡ read_of b
   unfolding read_of
-  read-refused r e h = rw (e, ne_eqb (refusal_number r) 0 h)
+  read-refused h = sym (answered_err (read_refusal b) _ h)
 
-  pub read-accepted : (r : Refusal) → read_refusal b ≡ r → refusal_number r ≡ 0
-      → record { refusal = r; rate = rate_in b; subframes = count_in b; frames = length (on_chain (chain_of b)); records = padded (on_chain (chain_of b)) }
-      ≡ read_of b
+  pub read-accepted : read_refusal b ≡ Ok tt
+      → Ok (record { rate = rate_in b; subframes = count_in b; frames = length (on_chain (chain_of b)); records = padded (on_chain (chain_of b)) }) ≡ read_of b
   unfolding read_of
-  read-accepted r e h = rw (e, eq-eqb (refusal_number r) 0 h)
+  read-accepted h = sym (answered_ok (read_refusal b) _ h)
 
   -- the records of a chain
   module _ (e : is_whole (length b) ≡ true) where
@@ -80,6 +93,13 @@ module _ (b : List ℕ) where
         let l = padded-below (on_chain (chain_of b)) (records_in b) some (chained b some).below k in
         omega (arith, w.all, l)
 
+    pub inside_chain : Inside b (on_chain (chain_of b))
+    unfolding records_in
+    inside_chain k =
+        let w = whole (length b) e in
+        let l = (chained b some).below k in
+        omega (arith, w.all, l)
+
   -- nothing is refused
   pub record Clear : Type 0 where
     pub whole : is_whole (length b) ≡ true
@@ -88,12 +108,12 @@ module _ (b : List ℕ) where
     pub frames : are_frames b (on_chain (chain_of b)) ≡ true
     pub rate : is_rate (rate_in b) ≡ true
     pub count : is_count (count_in b) ≡ true
-    pub described : refusal_number (described_all (shape (rate_in b) (count_in b)) (frames_in b)) ≡ 0
+    pub described : code_of (described_all (shape (rate_in b) (count_in b)) (frames_in b)) ≡ 0
 
-  pub rows-clear : refusal_number (read_refusal b) ≡ 0 → Clear
+  pub rows-clear : code_of (read_refusal b) ≡ 0 → Clear
   unfolding read_refusal
   rows-clear a =
-      let k = clear ((not (is_whole (length b)) gives Record) ∷ (is_broken (chain_of b) gives Chain) ∷ (not (is_head b && are_frames b (on_chain (chain_of b))) gives Record) ∷ (not (is_rate (rate_in b)) gives Rate) ∷ (not (is_count (count_in b)) gives Size) ∷ []) (described_all (shape (rate_in b) (count_in b)) (frames_in b)) refl a in
+      let k = clear_then ((not (is_whole (length b)) gives Record) ∷ (is_broken (chain_of b) gives Chain) ∷ (not (is_head b && are_frames b (on_chain (chain_of b))) gives Record) ∷ (not (is_rate (rate_in b)) gives Rate) ∷ (not (is_count (count_in b)) gives Size) ∷ []) (described_all (shape (rate_in b) (count_in b)) (frames_in b)) a in
       let c = k.0 in
       let h = both (is_head b) (are_frames b (on_chain (chain_of b))) (not-false (is_head b && are_frames b (on_chain (chain_of b))) c.1.1.0) in
       record {

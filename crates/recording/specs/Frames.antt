@@ -1,10 +1,8 @@
 -- Document 02, Note 9: what the records of a recording hold.
-use Rattle.std.specs.Prelude.{ℕ, zero, suc, ◌+◌, ◌*◌, ◌≤◌, Bool, true, cond, ◌&&◌, List, [], ◌∷◌, map, eqb, ℤ, pos, get_or, drop, length}
+use Rattle.std.specs.Prelude.{ℕ, zero, suc, ◌+◌, ◌*◌, ◌≤◌, Bool, true, cond, ◌&&◌, List, [], ◌∷◌, map, eqb, ℤ, pos, get_or, drop, length, codes, Ok}
 use Rattle.le.specs.Bytes.{same}
 use Rattle.refusal.specs.First.{first_of, earlier}
-use Rattle.refusal.specs.Letters.{letters}
-use Rattle.refusal.specs.declared.Refusal.{Refusal}
-use Rattle.refusal.specs.declared.Refusal.TheVariants.{Nothing}
+use Rattle.refusal.specs.Refusals.{Judged}
 use Rattle.shape.specs.Shape.{Shape}
 use Rattle.judge.specs.Rows.{description_rows}
 use Rattle.record.specs.Recorded.{Recorded, lost, received, recorded_in}
@@ -17,7 +15,7 @@ zeros b at (suc n) = zeros b at n && eqb (get_or b (at + n) 0) 0
 
 -- record 0: YARD after its next number, rate, subframes, and zeros to the end
 unfoldable pub is_head : List ℕ → Bool
-is_head b = same (drop 2 b) (letters "YARD") 4 && zeros b 8 1016
+is_head b = same (drop 2 b) (codes "YARD") 4 && zeros b 8 1016
 
 abbrev pub rate_in : List ℕ → ℤ
 rate_in b = pos (get_or b 6 0)
@@ -44,13 +42,13 @@ unfoldable pub frames_in : List ℕ → List Recorded
 frames_in b = map (recorded_at b) (on_chain (chain_of b))
 
 -- rows 5 to 9 of a frame; a lost one meets none
-unfoldable pub described : Shape → Recorded → Refusal
-described p lost = Nothing
+unfoldable pub described : Shape → Recorded → Judged
+described p lost = Ok tt
 described p (received q c rows lines pulses) = first_of (description_rows p q c lines)
 
 -- the first of rows 5 to 9, by number, that applies to one of the frames
-unfoldable pub described_all : Shape → List Recorded → Refusal
-described_all p [] = Nothing
+unfoldable pub described_all : Shape → List Recorded → Judged
+described_all p [] = Ok tt
 described_all p (x ∷ xs) = earlier (described p x) (described_all p xs)
 
 -- inner: the records lie within the bytes

@@ -1,3 +1,4 @@
 -- The definitions that the contracts cite.
+pub mod Rows
 pub mod Frames
 pub mod Reading

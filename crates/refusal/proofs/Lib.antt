@@ -1,4 +1,3 @@
 -- The laws that other crates cite.
 pub mod Clear
 pub mod Earliest
-pub mod Words

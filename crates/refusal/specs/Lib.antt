@@ -1,4 +1,3 @@
 -- The definitions that the contracts cite.
-pub mod Letters
 pub mod Refusals
 pub mod First

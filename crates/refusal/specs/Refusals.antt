@@ -1,14 +1,11 @@
 -- Document 01, "Why a frame is turned down", and document 02's rows 14 to 23: the number and the word of each.
-use Rattle.std.specs.Prelude.{ℕ, ◌-◌, ◌++◌, cond, eqb, length, replicate}
+use Rattle.std.specs.Prelude.{ℕ, Result, Ok, Err}
 use Prim.Native.String.{String}
-use Rattle.refusal.specs.Letters.{letters}
 use Rattle.refusal.specs.declared.Refusal.{Refusal}
-use Rattle.refusal.specs.declared.Refusal.TheVariants.{Nothing, Rate, Size, History, RunFull, Signal, Gain, Lag, Taps, Line, Pulses, Speaker, Length, Order, Squelch, Weights, Channels, Place, Post, Waiting, Chain, Record, Edition, Limit}
-use Rattle.refusal.specs.declared.Text.{Text}
+use Rattle.refusal.specs.declared.Refusal.TheVariants.{Rate, Size, History, RunFull, Signal, Gain, Lag, Taps, Line, Pulses, Speaker, Length, Order, Squelch, Weights, Channels, Place, Post, Waiting, Chain, Record, Edition, Limit}
 
--- the column "No."; 0 where nothing is refused
+-- the column "No."
 abbrev pub refusal_number : Refusal → ℕ
-refusal_number Nothing = 0
 refusal_number Rate = 1
 refusal_number Size = 2
 refusal_number History = 3
@@ -33,9 +30,8 @@ refusal_number Record = 21
 refusal_number Edition = 22
 refusal_number Limit = 23
 
--- the column "Word"; empty where nothing is refused
+-- the column "Word"
 abbrev pub refusal_word : Refusal → String
-refusal_word Nothing = ""
 refusal_word Rate = "rate"
 refusal_word Size = "size"
 refusal_word History = "history"
@@ -60,10 +56,21 @@ refusal_word Record = "record"
 refusal_word Edition = "edition"
 refusal_word Limit = "limit"
 
--- the first of two values if nothing is refused, else the second
-abbrev pub if_accepted {ℓ} : {A : Type ℓ} → Refusal → A → A → A
-if_accepted r new old = cond (eqb (refusal_number r) 0) new old
+-- a judgement: nothing is refused, or the row that is given
+abbrev pub Judged : Type 0
+Judged = Result (Unit {0}) Refusal
 
--- a text as the code has it: its letters, zeros up to eight places, and how many letters it has
-abbrev pub text_of : String → Text
-text_of s = record { letters = letters s ++ replicate (8 - length (letters s)) 0; len = length (letters s) }
+-- its number, 0 where nothing is refused
+abbrev pub code_of : Judged → ℕ
+code_of (Ok u) = 0
+code_of (Err r) = refusal_number r
+
+-- the first of two values if nothing is refused, else the second
+abbrev pub if_accepted {ℓ} : {A : Type ℓ} → Judged → A → A → A
+if_accepted (Ok u) new old = new
+if_accepted (Err r) new old = old
+
+-- a call's answer: the row that it is refused by, or a value
+abbrev pub answered : {A : Type 0} → Judged → A → Result A Refusal
+answered (Ok u) x = Ok x
+answered (Err r) x = Err r

@@ -2,13 +2,14 @@
 // Inner: every function.
 #![tactic(auto)]
 
-ghost use Rattle.std.specs.Prelude.{◌≡◌, cond, pos};
-ghost use Rattle.refusal.specs.Refusals.{refusal_number, refusal_word, text_of};
-ghost use Rattle.refusal.specs.First.{earlier};
+ghost use Rattle.std.specs.Prelude.{◌≡◌, [], ◌∷◌, pos, codes};
+ghost use Rattle.refusal.specs.Refusals.{refusal_number, refusal_word, code_of};
+ghost use Rattle.refusal.specs.First.{◌gives◌, first_of, earlier};
 
-#[derive(Clone, Copy)]
+use std::fmt;
+
+#[derive(Clone, Copy, Debug, PartialEq, Eq)]
 pub enum Refusal {
-    Nothing,
     Rate,
     Size,
     History,
@@ -34,114 +35,101 @@ pub enum Refusal {
     Limit,
 }
 
-// A row's number, 0 where nothing is refused.
-pub fn number(r: Refusal) -> u8
-    ensures { result ≡ refusal_number r }
-{
-    match r {
-        Refusal::Nothing => 0,
-        Refusal::Rate => 1,
-        Refusal::Size => 2,
-        Refusal::History => 3,
-        Refusal::RunFull => 4,
-        Refusal::Signal => 5,
-        Refusal::Gain => 6,
-        Refusal::Lag => 7,
-        Refusal::Taps => 8,
-        Refusal::Line => 9,
-        Refusal::Pulses => 10,
-        Refusal::Speaker => 11,
-        Refusal::Length => 12,
-        Refusal::Order => 13,
-        Refusal::Squelch => 14,
-        Refusal::Weights => 15,
-        Refusal::Channels => 16,
-        Refusal::Place => 17,
-        Refusal::Post => 18,
-        Refusal::Waiting => 19,
-        Refusal::Chain => 20,
-        Refusal::Record => 21,
-        Refusal::Edition => 22,
-        Refusal::Limit => 23,
+impl Refusal {
+    // A row's number.
+    pub fn number(self) -> u8
+        ensures { result ≡ refusal_number self }
+    {
+        match self {
+            Refusal::Rate => 1,
+            Refusal::Size => 2,
+            Refusal::History => 3,
+            Refusal::RunFull => 4,
+            Refusal::Signal => 5,
+            Refusal::Gain => 6,
+            Refusal::Lag => 7,
+            Refusal::Taps => 8,
+            Refusal::Line => 9,
+            Refusal::Pulses => 10,
+            Refusal::Speaker => 11,
+            Refusal::Length => 12,
+            Refusal::Order => 13,
+            Refusal::Squelch => 14,
+            Refusal::Weights => 15,
+            Refusal::Channels => 16,
+            Refusal::Place => 17,
+            Refusal::Post => 18,
+            Refusal::Waiting => 19,
+            Refusal::Chain => 20,
+            Refusal::Record => 21,
+            Refusal::Edition => 22,
+            Refusal::Limit => 23,
+        }
+    }
+
+    // A row's word.
+    pub fn word(self) -> &'static str
+        ensures { result.now ≡ codes (refusal_word self) }
+    {
+        match self {
+            Refusal::Rate => "rate",
+            Refusal::Size => "size",
+            Refusal::History => "history",
+            Refusal::RunFull => "run full",
+            Refusal::Signal => "signal",
+            Refusal::Gain => "gain",
+            Refusal::Lag => "lag",
+            Refusal::Taps => "taps",
+            Refusal::Line => "line",
+            Refusal::Pulses => "pulses",
+            Refusal::Speaker => "speaker",
+            Refusal::Length => "length",
+            Refusal::Order => "order",
+            Refusal::Squelch => "squelch",
+            Refusal::Weights => "weights",
+            Refusal::Channels => "channels",
+            Refusal::Place => "place",
+            Refusal::Post => "post",
+            Refusal::Waiting => "waiting",
+            Refusal::Chain => "chain",
+            Refusal::Record => "record",
+            Refusal::Edition => "edition",
+            Refusal::Limit => "limit",
+        }
     }
 }
 
-// The number as an exported function answers it.
-pub fn code(r: Refusal) -> i32
-    ensures { result ≡ pos (refusal_number r) }
-{
-    number(r) as i32
-}
-
-// A word of up to eight letters, with zeros after them.
-#[derive(Clone, Copy)]
-pub struct Text {
-    pub letters: [u8; 8],
-    pub len: usize,
-}
-
-// The words by number.
-const WORDS: [[u8; 8]; 24] = [
-    *b"\0\0\0\0\0\0\0\0",
-    *b"rate\0\0\0\0",
-    *b"size\0\0\0\0",
-    *b"history\0",
-    *b"run full",
-    *b"signal\0\0",
-    *b"gain\0\0\0\0",
-    *b"lag\0\0\0\0\0",
-    *b"taps\0\0\0\0",
-    *b"line\0\0\0\0",
-    *b"pulses\0\0",
-    *b"speaker\0",
-    *b"length\0\0",
-    *b"order\0\0\0",
-    *b"squelch\0",
-    *b"weights\0",
-    *b"channels",
-    *b"place\0\0\0",
-    *b"post\0\0\0\0",
-    *b"waiting\0",
-    *b"chain\0\0\0",
-    *b"record\0\0",
-    *b"edition\0",
-    *b"limit\0\0\0",
-];
-
-const LENGTHS: [usize; 24] = [
-    0, 4, 4, 7, 8, 6, 4, 3, 4, 4, 6, 7, 6, 5, 7, 7, 8, 5, 4, 7, 5, 6, 7, 5,
-];
-
-// A row's word, empty where nothing is refused.
-pub fn word(r: Refusal) -> Text
-    ensures { result ≡ text_of (refusal_word r) }
-{
-    let n = number(r) as usize;
-    let letters = WORDS[n];
-    Text {
-        letters,
-        len: LENGTHS[n],
+impl fmt::Display for Refusal {
+    fn fmt<W: fmt::Write>(&self, f: &mut fmt::Formatter<W>) -> fmt::Result {
+        f.write_str(self.word())
     }
 }
 
-// A row before the others: its refusal where it applies, else theirs.
-pub fn first(applies: bool, refusal: Refusal, other: Refusal) -> Refusal
-    ensures { result ≡ cond applies refusal other }
+// A judgement as an exported function answers it: 0 where nothing is refused.
+pub fn code(judged: Result<(), Refusal>) -> i32
+    ensures { result ≡ pos (code_of judged) }
 {
-    if applies { refusal } else { other }
+    match judged {
+        Ok(()) => 0,
+        Err(refusal) => i32::from(refusal.number()),
+    }
 }
 
-// Of two refusals the one with the smaller number, and the other where one is none.
-pub fn earlier(r: Refusal, t: Refusal) -> Refusal
-    ensures { result ≡ earlier r t }
+// One row.
+#[tactic(auto, unfolding(crate::specs::First::first_of))]
+pub fn refuse_if(applies: bool, refusal: Refusal) -> Result<(), Refusal>
+    ensures { result ≡ first_of ((applies gives refusal) ∷ []) }
 {
-    let n = number(r);
-    let m = number(t);
-    if n == 0 {
-        return t;
+    if applies { Err(refusal) } else { Ok(()) }
+}
+
+// Of two judgements the one with the smaller number, and the other where one refuses nothing.
+pub fn earlier(a: Result<(), Refusal>, b: Result<(), Refusal>) -> Result<(), Refusal>
+    ensures { result ≡ earlier a b }
+{
+    match (a, b) {
+        (Ok(()), _) => b,
+        (_, Ok(())) => a,
+        (Err(r), Err(t)) => { if r.number() <= t.number() { a } else { b } }
     }
-    if m == 0 {
-        return r;
-    }
-    if n <= m { r } else { t }
 }

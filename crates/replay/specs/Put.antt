@@ -14,6 +14,6 @@ unfoldable pub shorts : List ℤ → List ℤ
 shorts row = tabulate 64 (λ i. wrap16 (get_or row i (pos 0)))
 
 -- `to` with the numbers in their places, where there is room
-unfoldable pub put : List ℤ → List ℤ → ℤ → ℕ → List ℤ
+unfoldable pub put : {A : Type 0} → List A → List A → ℤ → ℕ → List A
 put to row at count =
     cond (room (length to) (mod_ℤ at (2 ^ 32)) count) (put_at to (mod_ℤ at (2 ^ 32)) (take (count - 2) (drop 2 row))) to

@@ -12,9 +12,8 @@ use lib.Seq.{drop-drop, drop_at, take_at, get_or-drop, append_snoc}
 use Rattle.le.specs.Bytes.{bytes_of, number_of, unsigned_at, joined}
 use Rattle.le.proofs.Numbers.{number_of-bytes}
 use Rattle.refusal.specs.First.{◌gives◌, earlier}
-use Rattle.refusal.specs.Refusals.{refusal_number}
+use Rattle.refusal.specs.Refusals.{code_of}
 use Rattle.refusal.specs.declared.Refusal.TheVariants.{Rate, Size, Record, Chain}
-use Rattle.refusal.proofs.Clear.{passed}
 use Rattle.shape.specs.Shape.{Shape, shape, is_rate, is_count}
 use Rattle.decoder.specs.Signals.{signal_number, is_type, is_voiced}
 use Rattle.judge.specs.Rows.{signal_row, lag_row, taps_row}
@@ -23,11 +22,13 @@ use Rattle.record.specs.Claims.{TypedRecorded, by_number}
 use Rattle.record.proofs.Parts.{length_record}
 use Rattle.record.proofs.Ways.{number_of_lem}
 use Rattle.record.proofs.Ways as ways
-use Rattle.chain.specs.Chain.{is_whole, records_in, next_of, is_among, through, chain_from, chain_of, is_broken, on_chain}
+use Rattle.std.specs.Prelude.{Some}
+use Rattle.chain.specs.Chain.{is_whole, records_in, next_of, is_among, chain_from, chain_of, is_broken, on_chain}
 use Rattle.chain.proofs.Chains.{among_snoc}
 use Rattle.chain.proofs.Steps.{step_end, step-on}
 use Rattle.recording.specs.Frames.{is_head, rate_in, count_in, is_frame, are_frames, recorded_at, frames_in, described, described_all}
 use Rattle.recording.specs.Reading.{read_refusal}
+use Rattle.recording.proofs.Rows.{passed_then}
 use Rattle.recorder.specs.Writing.{head_bytes, frame_bytes, link_to, frames_to, recording_to, recording_bytes}
 use Rattle.round_trip.specs.Claims.{up_from, size, All, write_of, WrittenIsRead}
 use Rattle.round_trip.proofs.Records.{frame_rest, head_rest, frame-parts, length-frame, length_head, length_recording, recording_parts}
@@ -85,9 +86,9 @@ among_above j k met e h = among_snoc j k met ∙ rw (e, ne_eqb j k (λ f. omega 
 chain_from_lem : (b : List ℕ) (i : ℕ) (xs : List Recorded) (met : List ℕ) → drop (1024 * suc i) b ≡ frames_to 0 (suc i) xs → next_of b i ≡ link_to 0 (suc i) xs → suc i + length xs ≡ records_in b
     → records_in b ≤ 60
     → ((j : ℕ) → i < j → is_among j met ≡ false)
-    → chain_from b (length xs) met i ≡ through (met ++ up_from (suc i) (length xs))
+    → chain_from b (length xs) met i ≡ Some (met ++ up_from (suc i) (length xs))
 unfolding frames_to link_to up_from
-chain_from_lem b i [] met e n r s f = step_end b met i 0 n ∙ ap through (sym (append-nil met))
+chain_from_lem b i [] met e n r s f = step_end b met i 0 n ∙ ap Some (sym (append-nil met))
 chain_from_lem b i (x ∷ xs) met e n r s f =
     let k = link_to 0 (suc (suc i)) xs in
     let l : next_of b i < records_in b = omega (arith, n, r) in
@@ -96,7 +97,7 @@ chain_from_lem b i (x ∷ xs) met e n r s f =
     ∙ chain_from_lem b (suc i) xs (met ++ suc i ∷ []) (behind b (suc i) k x (frames_to 0 (suc (suc i)) xs) e)
     (next-is b (suc i) k (frame_rest x ++ frames_to 0 (suc (suc i)) xs) (small_link (suc (suc i)) xs (omega arith)) (first b (suc i) k x (frames_to 0 (suc (suc i)) xs) e))
     (omega (arith, r)) s (λ j h. among_above j (suc i) met (f j (omega arith)) h)
-    ∙ ap through (append_snoc met (suc i) (up_from (suc (suc i)) (length xs)))
+    ∙ ap Some (append_snoc met (suc i) (up_from (suc (suc i)) (length xs)))
 
 -- the frames' records
 frames_are : (b : List ℕ) (i : ℕ) (xs : List Recorded) → drop (1024 * i) b ≡ frames_to 0 i xs → are_frames b (up_from i (length xs)) ≡ true
@@ -157,7 +158,7 @@ module _ (khz nb : ℤ) (xs : List Recorded) (e : is_rate khz ≡ true) (f : is_
       next-is bytes 0 (link_to 0 1 xs) (head_rest khz nb ++ frames_to 0 1 xs ++ []) (small_link 1 xs (omega arith))
       (sym (append-nil bytes) ∙ recording_parts khz nb xs 0 [])
 
-  chain-is : chain_of bytes ≡ through (up_from 1 (length xs))
+  chain-is : chain_of bytes ≡ Some (up_from 1 (length xs))
   unfolding chain_of is_among
   chain-is =
       let m : records_in bytes - 1 ≡ length xs = omega (arith, records) in
@@ -189,7 +190,7 @@ module _ (khz nb : ℤ) (xs : List Recorded) (e : is_rate khz ≡ true) (f : is_
       let h : not (is_head bytes && are_frames bytes (on_chain (chain_of bytes))) ≡ false = rw (head, on, frames_are bytes 1 xs behind-head) in
       let r : not (is_rate (rate_in bytes)) ≡ false = rw (rate, e) in
       let n : not (is_count (count_in bytes)) ≡ false = rw (count, f) in
-      passed ((not (is_whole (length bytes)) gives Record) ∷ (is_broken (chain_of bytes) gives Chain) ∷ (not (is_head bytes && are_frames bytes (on_chain (chain_of bytes))) gives Record) ∷ (not (is_rate (rate_in bytes)) gives Rate) ∷ (not (is_count (count_in bytes)) gives Size) ∷ [])
+      passed_then ((not (is_whole (length bytes)) gives Record) ∷ (is_broken (chain_of bytes) gives Chain) ∷ (not (is_head bytes && are_frames bytes (on_chain (chain_of bytes))) gives Record) ∷ (not (is_rate (rate_in bytes)) gives Rate) ∷ (not (is_count (count_in bytes)) gives Size) ∷ [])
       (described_all (shape (rate_in bytes) (count_in bytes)) (frames_in bytes))
       (w, (c, (h, (r, (n, tt)))))
       ∙ (λ i. described_all (shape (rate i) (count i)) (frames t i))
@@ -201,7 +202,7 @@ written_is_read khz nb lent xs t a =
     let b = recording_bytes khz nb xs in
     let k : take (size xs) (write_of khz nb lent xs).bytes ≡ b =
     ap (take (size xs)) w.bytes ∙ take_at b (drop (size xs) lent) (size xs) (length_recording 0 khz nb xs) in (
-      ap (λ (c : List ℕ). refusal_number (read_refusal c)) k ∙ ap refusal_number (reads khz nb xs w.rate w.count w.few t) ∙ w.rows,
+      ap (λ (c : List ℕ). code_of (read_refusal c)) k ∙ ap code_of (reads khz nb xs w.rate w.count w.few t) ∙ w.rows,
       ap rate_in k ∙ rate khz nb xs w.rate w.count w.few,
       ap count_in k ∙ count khz nb xs w.rate w.count w.few,
       ap frames_in k ∙ frames khz nb xs w.rate w.count w.few t,

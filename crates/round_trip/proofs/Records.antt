@@ -7,7 +7,7 @@ use lib.IntN.{ℤ, pos}
 use lib.ListN.{length, drop, replicate, length-append, length-replicate}
 use Rattle.le.specs.Bytes.{bytes_of, with_bytes}
 use Rattle.le.proofs.Places.{with-front}
-use Rattle.refusal.specs.Letters.{letters}
+use Rattle.std.specs.Prelude.{codes}
 use Rattle.record.specs.Recorded.{Recorded, record_bytes}
 use Rattle.record.proofs.Parts.{length_record}
 use Rattle.recorder.specs.Writing.{head_bytes, frame_bytes, link_to, frames_to, recording_to, recording_bytes, appended}
@@ -17,7 +17,7 @@ abbrev pub frame_rest : Recorded → List ℕ
 frame_rest x = record_bytes x ++ replicate 205 0
 
 abbrev pub head_rest : ℤ → ℤ → List ℕ
-head_rest khz nb = letters "YARD" ++ bytes_of 1 khz ++ bytes_of 1 nb ++ replicate 1016 0
+head_rest khz nb = codes "YARD" ++ bytes_of 1 khz ++ bytes_of 1 nb ++ replicate 1016 0
 
 pub frame-parts : (k : ℕ) (x : Recorded) → frame_bytes k x ≡ bytes_of 2 (pos k) ++ frame_rest x
 unfolding frame_bytes

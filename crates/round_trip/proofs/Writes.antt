@@ -1,11 +1,11 @@
 -- What appends in order leave, and what they take.
 use Prim.Native.Nat.{ℕ, zero, suc, ◌+◌, ◌*◌, ◌≤◌, ◌<◌}
 use mathlib.Core.Path.{◌≡◌, refl, sym, ap, ◌∙◌}
-use mathlib.Core.Bool.{Bool, true, false, not, cond, ◌&&◌, false≢true}
+use mathlib.Core.Bool.{Bool, true, false, not, ◌&&◌, false≢true}
 use mathlib.Core.List.{List, [], ◌∷◌, ◌++◌, append_assoc, append-nil}
 use native.Mathlib.Omega.{arith}
-use borrow.Author.Tests.{eqb-true, eq-eqb, le-leb, le-ltb, ltb-false, not-false}
-use lib.Dec.{eqb, leb, ltb}
+use borrow.Author.Tests.{eq-eqb, le-leb, le-ltb, ltb-false, not-false}
+use lib.Dec.{leb, ltb}
 use lib.IntN.{ℤ, pos}
 use lib.ListN.{length, get_or, drop, replicate, length-append, length-drop, length-replicate, get_or-replicate, get_or-append}
 use lib.Seq.{drop-drop, get_or-drop, append_snoc}
@@ -13,15 +13,17 @@ use Rattle.word.specs.Int.{eq_ℤ, mod_ℤ}
 use Rattle.word.proofs.Order.{eq_ℤ_refl}
 use native.Mathlib.Nat.{mod-eq_of_lt}
 use Rattle.le.specs.Bytes.{bytes_of, with_bytes, same}
+use Rattle.std.specs.Prelude.{Ok, Err}
 use Rattle.refusal.specs.First.{◌gives◌}
-use Rattle.refusal.specs.Refusals.{refusal_number}
-use Rattle.refusal.specs.declared.Refusal.TheVariants.{Nothing, Rate, Size, Record}
-use Rattle.refusal.proofs.Clear.{clear, passed}
+use Rattle.refusal.specs.Refusals.{Judged, code_of, if_accepted}
+use Rattle.refusal.specs.declared.Refusal.TheVariants.{Rate, Size, Record}
+use Rattle.refusal.proofs.Clear.{accepted, clear, passed}
 use Rattle.refusal.proofs.Earliest.{one_of_two, earlier-clear}
 use Rattle.shape.specs.Shape.{shape, is_rate, is_count, rate_of, count_of}
 use Rattle.shape.proofs.Shapes.{rate_kept, count_kept, rate_le, count_le}
 use Rattle.record.specs.Recorded.{Recorded}
 use Rattle.recording.specs.Frames.{zeros, is_head, rate_in, count_in, described, described_all}
+use Rattle.recording.proofs.Rows.{clear_then, passed_then}
 use Rattle.recorder.specs.Writing.{Left, head_bytes, frames_to, link_to, recording_to, recording_bytes, begin_refusal, begin_of, has_pulses, has_room, head_rows, append_refusal, appended, append_of}
 use Rattle.recorder.proofs.Laws.{room}
 use Rattle.round_trip.specs.Claims.{appends_of, write_of, size, All, InOrder, WriterTakes}
@@ -95,12 +97,12 @@ module _ (khz nb : ℤ) (e : is_rate khz ≡ true) (f : is_count nb ≡ true) wh
     pub record Takes (x : Recorded) : Type 0 where
       pub few : suc (length ys) ≤ 59
       pub enough : 1024 ≤ length d
-      pub rows : refusal_number (described (shape khz nb) x) ≡ 0
+      pub rows : code_of (described (shape khz nb) x) ≡ 0
 
-    pub takes : (x : Recorded) → refusal_number (append_refusal khz nb bytes (length ys) x) ≡ 0 → Takes x
+    pub takes : (x : Recorded) → code_of (append_refusal khz nb bytes (length ys) x) ≡ 0 → Takes x
     unfolding append_refusal
     takes x a =
-        let c = clear ((not (has_room (length bytes) (length ys) && has_pulses x) gives Record) ∷ head_rows khz nb bytes) (described (shape khz nb) x) refl a in
+        let c = clear_then ((not (has_room (length bytes) (length ys) && has_pulses x) gives Record) ∷ head_rows khz nb bytes) (described (shape khz nb) x) a in
         let r = room (length bytes) (length ys) (both (has_room (length bytes) (length ys)) (has_pulses x) (not-false (has_room (length bytes) (length ys) && has_pulses x) c.0.0)).0 in
         record { few = omega (arith, r.few); enough = omega (arith, r.enough, length-bytes); rows = c.1 }
 
@@ -112,30 +114,28 @@ module _ (khz nb : ℤ) (e : is_rate khz ≡ true) (f : is_count nb ≡ true) wh
         let b : not (is_head bytes) ≡ false = rw head_is in
         let r : not (is_rate (rate_in bytes) && eq_ℤ khz (rate_in bytes)) ≡ false = rw (rate_is, e, eq_ℤ_refl khz) in
         let n : not (is_count (count_in bytes) && eq_ℤ nb (count_in bytes)) ≡ false = rw (count_is, f, eq_ℤ_refl nb) in
-        passed ((not (has_room (length bytes) (length ys) && has_pulses x) gives Record) ∷ head_rows khz nb bytes) (described (shape khz nb) x) (a, (b, (r, (n, tt))))
+        passed_then ((not (has_room (length bytes) (length ys) && has_pulses x) gives Record) ∷ head_rows khz nb bytes) (described (shape khz nb) x) (a, (b, (r, (n, tt))))
 
 -- one frame of a list of appends
 module _ (khz nb : ℤ) (b : List ℕ) (n : ℕ) (x : Recorded) (xs : List Recorded) where
-  goes_on : refusal_number (append_refusal khz nb b n x) ≡ 0 → appends_of khz nb b n (x ∷ xs) ≡ appends_of khz nb (appended b n x) (suc n) xs
+  goes_on : code_of (append_refusal khz nb b n x) ≡ 0 → appends_of khz nb b n (x ∷ xs) ≡ appends_of khz nb (appended b n x) (suc n) xs
   unfolding appends_of append_of
-  goes_on e = rw (eq-eqb (refusal_number (append_refusal khz nb b n x)) 0 e)
+  goes_on e = rw (accepted (append_refusal khz nb b n x) e) refl
 
-  was-taken : refusal_number (appends_of khz nb b n (x ∷ xs)).refusal ≡ 0 → refusal_number (append_refusal khz nb b n x) ≡ 0
+  was-taken : code_of (appends_of khz nb b n (x ∷ xs)).judged ≡ 0 → code_of (append_refusal khz nb b n x) ≡ 0
   unfolding appends_of append_of
-  was-taken = go (eqb (refusal_number (append_refusal khz nb b n x)) 0) refl
+  was-taken = go (append_refusal khz nb b n x)
     where
-      go : (a : Bool) → eqb (refusal_number (append_refusal khz nb b n x)) 0 ≡ a
-          → refusal_number (cond a (appends_of khz nb (cond a (appended b n x) b) (suc n) xs) (record { refusal = append_refusal khz nb b n x; bytes = cond a (appended b n x) b })).refusal ≡ 0
-          → refusal_number (append_refusal khz nb b n x) ≡ 0
-      go true p e = eqb-true (refusal_number (append_refusal khz nb b n x)) 0 p
-      go false p e = e
+      go : (j : Judged) → code_of (if_accepted j (appends_of khz nb (if_accepted j (appended b n x) b) (suc n) xs) (record { judged = j; bytes = if_accepted j (appended b n x) b })).judged ≡ 0 → code_of j ≡ 0
+      go (Ok u) e = refl
+      go (Err r) e = e
 
 snoc_length : (ys : List Recorded) (x : Recorded) → suc (length ys) ≡ length (ys ++ x ∷ [])
 snoc_length ys x = omega (arith, length-append ys (x ∷ []))
 
 module _ (khz nb : ℤ) (e : is_rate khz ≡ true) (f : is_count nb ≡ true) where
   -- a frame that is taken, and those behind it
-  next : (ys : List Recorded) (d : List ℕ) (x : Recorded) (xs : List Recorded) → refusal_number (append_refusal khz nb (recording_bytes khz nb ys ++ d) (length ys) x) ≡ 0
+  next : (ys : List Recorded) (d : List ℕ) (x : Recorded) (xs : List Recorded) → code_of (append_refusal khz nb (recording_bytes khz nb ys ++ d) (length ys) x) ≡ 0
       → appends_of khz nb (recording_bytes khz nb ys ++ d) (length ys) (x ∷ xs) ≡ appends_of khz nb (recording_bytes khz nb (ys ++ x ∷ []) ++ drop 1024 d) (length (ys ++ x ∷ [])) xs
   next ys d x xs a =
       let t = takes khz nb e f ys d x a in
@@ -144,10 +144,10 @@ module _ (khz nb : ℤ) (e : is_rate khz ≡ true) (f : is_count nb ≡ true) wh
 
   pub record Taken (ys xs : List Recorded) (d : List ℕ) : Type 0 where
     pub few : length ys + length xs ≤ 59
-    pub rows : refusal_number (described_all (shape khz nb) xs) ≡ 0
+    pub rows : code_of (described_all (shape khz nb) xs) ≡ 0
     pub bytes : (appends_of khz nb (recording_bytes khz nb ys ++ d) (length ys) xs).bytes ≡ recording_bytes khz nb (ys ++ xs) ++ drop (1024 * length xs) d
 
-  pub all_taken : (ys xs : List Recorded) (d : List ℕ) → length ys ≤ 59 → refusal_number (appends_of khz nb (recording_bytes khz nb ys ++ d) (length ys) xs).refusal ≡ 0 → Taken ys xs d
+  pub all_taken : (ys xs : List Recorded) (d : List ℕ) → length ys ≤ 59 → code_of (appends_of khz nb (recording_bytes khz nb ys ++ d) (length ys) xs).judged ≡ 0 → Taken ys xs d
   unfolding appends_of described_all
   all_taken ys [] d l a =
       record { few = omega arith; rows = refl; bytes = ap (λ (zs : List Recorded). recording_bytes khz nb zs ++ d) (sym (append-nil ys)) }
@@ -155,11 +155,11 @@ module _ (khz nb : ℤ) (e : is_rate khz ≡ true) (f : is_count nb ≡ true) wh
       let r = was-taken khz nb (recording_bytes khz nb ys ++ d) (length ys) x xs a in
       let t = takes khz nb e f ys d x r in
       let n = next ys d x xs r in
-      let ih = all_taken (ys ++ x ∷ []) xs (drop 1024 d) (omega (arith, t.few, snoc_length ys x)) (sym (ap (λ (k : Left). refusal_number k.refusal) n) ∙ a) in
+      let ih = all_taken (ys ++ x ∷ []) xs (drop 1024 d) (omega (arith, t.few, snoc_length ys x)) (sym (ap (λ (k : Left). code_of k.judged) n) ∙ a) in
       let m : 1024 + 1024 * length xs ≡ 1024 * suc (length xs) = omega arith in
       record {
         few = omega (arith, ih.few, snoc_length ys x);
-        rows = one_of_two (described (shape khz nb) x) (described_all (shape khz nb) xs) (λ u. refusal_number u ≡ 0) t.rows ih.rows;
+        rows = one_of_two (described (shape khz nb) x) (described_all (shape khz nb) xs) (λ u. code_of u ≡ 0) t.rows ih.rows;
         bytes =
             ap (λ (k : Left). k.bytes) n ∙ ih.bytes
             ∙ (λ i. recording_bytes khz nb (append_snoc ys x xs i) ++ drop-drop (1024 * length xs) 1024 d i)
@@ -167,15 +167,15 @@ module _ (khz nb : ℤ) (e : is_rate khz ≡ true) (f : is_count nb ≡ true) wh
       }
 
   pub takes_all : (ys xs : List Recorded) (d : List ℕ) → length ys + length xs ≤ 59 → 1024 * length xs ≤ length d → All (λ x. has_pulses x ≡ true) xs
-      → refusal_number (described_all (shape khz nb) xs) ≡ 0
-      → refusal_number (appends_of khz nb (recording_bytes khz nb ys ++ d) (length ys) xs).refusal ≡ 0
+      → code_of (described_all (shape khz nb) xs) ≡ 0
+      → code_of (appends_of khz nb (recording_bytes khz nb ys ++ d) (length ys) xs).judged ≡ 0
   unfolding appends_of described_all
   takes_all ys [] d l m h r = refl
   takes_all ys (x ∷ xs) d l m h r =
       let c = earlier-clear (described (shape khz nb) x) (described_all (shape khz nb) xs) r in
-      let a : refusal_number (append_refusal khz nb (recording_bytes khz nb ys ++ d) (length ys) x) ≡ 0 =
-      ap refusal_number (taken khz nb e f ys d x (omega arith) (omega arith) h.0) ∙ c.0 in
-      ap (λ (k : Left). refusal_number k.refusal) (next ys d x xs a)
+      let a : code_of (append_refusal khz nb (recording_bytes khz nb ys ++ d) (length ys) x) ≡ 0 =
+      ap code_of (taken khz nb e f ys d x (omega arith) (omega arith) h.0) ∙ c.0 in
+      ap (λ (k : Left). code_of k.judged) (next ys d x xs a)
       ∙ takes_all (ys ++ x ∷ []) xs (drop 1024 d) (omega (arith, snoc_length ys x)) (omega (arith, length-drop 1024 d)) h.1 c.1
 
 -- the beginning
@@ -185,50 +185,50 @@ module _ (khz nb : ℤ) (b : List ℕ) where
     pub rate : is_rate khz ≡ true
     pub count : is_count nb ≡ true
 
-  pub begun-with : refusal_number (begin_refusal khz nb b) ≡ 0 → Begun
+  pub begun-with : code_of (begin_refusal khz nb b) ≡ 0 → Begun
   unfolding begin_refusal
   begun-with a =
-      let c = (clear ((ltb (length b) 1024 gives Record) ∷ (not (is_rate khz) gives Rate) ∷ (not (is_count nb) gives Size) ∷ []) Nothing refl a).0 in
+      let c = clear ((ltb (length b) 1024 gives Record) ∷ (not (is_rate khz) gives Rate) ∷ (not (is_count nb) gives Size) ∷ []) a in
       record { enough = ltb-false (length b) 1024 c.0; rate = not-false (is_rate khz) c.1.0; count = not-false (is_count nb) c.1.1.0 }
 
-  begins : 1024 ≤ length b → is_rate khz ≡ true → is_count nb ≡ true → begin_refusal khz nb b ≡ Nothing
+  begins : 1024 ≤ length b → is_rate khz ≡ true → is_count nb ≡ true → begin_refusal khz nb b ≡ Ok tt
   unfolding begin_refusal
   begins h e f =
-      passed ((ltb (length b) 1024 gives Record) ∷ (not (is_rate khz) gives Rate) ∷ (not (is_count nb) gives Size) ∷ []) Nothing (le-ltb (length b) 1024 h, (rw e, (rw f, tt)))
+      passed ((ltb (length b) 1024 gives Record) ∷ (not (is_rate khz) gives Rate) ∷ (not (is_count nb) gives Size) ∷ []) (le-ltb (length b) 1024 h, (rw e, (rw f, tt)))
 
   no_frames : 1024 ≤ length b → with_bytes b 0 (head_bytes 0 khz nb) ≡ recording_bytes khz nb [] ++ drop 1024 b
   unfolding recording_to frames_to link_to
   no_frames h = with-start b (head_bytes 0 khz nb) 1024 (length_head 0 khz nb) ∙ ap (λ (h : List ℕ). h ++ drop 1024 b) (sym (append-nil (head_bytes 0 khz nb)))
 
   module _ (xs : List Recorded) where
-    writes : refusal_number (begin_refusal khz nb b) ≡ 0 → write_of khz nb b xs ≡ appends_of khz nb (recording_bytes khz nb [] ++ drop 1024 b) 0 xs
+    writes : code_of (begin_refusal khz nb b) ≡ 0 → write_of khz nb b xs ≡ appends_of khz nb (recording_bytes khz nb [] ++ drop 1024 b) 0 xs
     unfolding write_of begin_of
-    writes a = rw (eq-eqb (refusal_number (begin_refusal khz nb b)) 0 a) (ap (λ (c : List ℕ). appends_of khz nb c 0 xs) (no_frames (begun-with a).enough))
+    writes a = rw (accepted (begin_refusal khz nb b) a) (ap (λ (c : List ℕ). appends_of khz nb c 0 xs) (no_frames (begun-with a).enough))
 
-    began : refusal_number (write_of khz nb b xs).refusal ≡ 0 → refusal_number (begin_refusal khz nb b) ≡ 0
+    began : code_of (write_of khz nb b xs).judged ≡ 0 → code_of (begin_refusal khz nb b) ≡ 0
     unfolding write_of begin_of
-    began = go (eqb (refusal_number (begin_refusal khz nb b)) 0) refl
+    began = go (begin_refusal khz nb b)
       where
-        go : (a : Bool) → eqb (refusal_number (begin_refusal khz nb b)) 0 ≡ a
-            → refusal_number (cond a (appends_of khz nb (cond a (with_bytes b 0 (head_bytes 0 khz nb)) b) 0 xs) (record { refusal = begin_refusal khz nb b; bytes = cond a (with_bytes b 0 (head_bytes 0 khz nb)) b })).refusal ≡ 0
-            → refusal_number (begin_refusal khz nb b) ≡ 0
-        go true p e = eqb-true (refusal_number (begin_refusal khz nb b)) 0 p
-        go false p e = e
+        go : (j : Judged)
+            → code_of (if_accepted j (appends_of khz nb (if_accepted j (with_bytes b 0 (head_bytes 0 khz nb)) b) 0 xs) (record { judged = j; bytes = if_accepted j (with_bytes b 0 (head_bytes 0 khz nb)) b })).judged ≡ 0
+            → code_of j ≡ 0
+        go (Ok u) e = refl
+        go (Err r) e = e
 
     -- what is written, and of which frames
     pub record Written : Type 0 where
       pub rate : is_rate khz ≡ true
       pub count : is_count nb ≡ true
       pub few : length xs ≤ 59
-      pub rows : refusal_number (described_all (shape khz nb) xs) ≡ 0
+      pub rows : code_of (described_all (shape khz nb) xs) ≡ 0
       pub bytes : (write_of khz nb b xs).bytes ≡ recording_bytes khz nb xs ++ drop (size xs) b
 
-    pub written : refusal_number (write_of khz nb b xs).refusal ≡ 0 → Written
+    pub written : code_of (write_of khz nb b xs).judged ≡ 0 → Written
     written a =
         let r = began a in
         let g = begun-with r in
         let w = writes r in
-        let t = all_taken khz nb g.rate g.count [] xs (drop 1024 b) (omega arith) (sym (ap (λ (k : Left). refusal_number k.refusal) w) ∙ a) in
+        let t = all_taken khz nb g.rate g.count [] xs (drop 1024 b) (omega arith) (sym (ap (λ (k : Left). code_of k.judged) w) ∙ a) in
         let m : 1024 + 1024 * length xs ≡ 1024 * suc (length xs) = omega arith in
         record {
           rate = g.rate;
@@ -245,5 +245,5 @@ in_order khz nb lent xs a = (written khz nb lent xs a).bytes
 pub writer_takes : WriterTakes
 writer_takes khz nb lent xs e f l m h r =
     let b = begins khz nb lent (omega (arith, m)) e f in
-    ap (λ (k : Left). refusal_number k.refusal) (writes khz nb lent xs (ap refusal_number b))
+    ap (λ (k : Left). code_of k.judged) (writes khz nb lent xs (ap code_of b))
     ∙ takes_all khz nb e f [] xs (drop 1024 lent) (omega (arith, l)) (omega (arith, m, length-drop 1024 lent)) h r

@@ -13,10 +13,10 @@ use lib.Seq.{drop-drop, take-add, take-suc, drop-cons, get_or-take, get_or-drop,
 use Rattle.le.specs.Bytes.{Bytes, bytes_of, number_of, unsigned_at, same}
 use Rattle.le.proofs.Numbers.{bytes_of-number}
 use Rattle.le.proofs.Packing.{drop-bytes, take-bytes}
-use Rattle.refusal.specs.Letters.{letters}
 use Rattle.record.specs.Recorded.{Recorded, recorded_in, record_bytes}
 use Rattle.record.proofs.Ways.{read_is_written}
-use Rattle.chain.specs.Chain.{records_in, next_of, is_among, Chain, through, broken, chain_from, chain_of, is_broken, on_chain}
+use Rattle.std.specs.Prelude.{Option, Some, None, codes}
+use Rattle.chain.specs.Chain.{records_in, next_of, is_among, chain_from, chain_of, is_broken, on_chain}
 use Rattle.chain.proofs.Steps.{whole}
 use Rattle.recording.specs.Frames.{zeros, is_head, rate_in, count_in, is_frame, are_frames, recorded_at, frames_in}
 use Rattle.recording.proofs.Answers.{rows-clear}
@@ -103,18 +103,18 @@ module _ (b : List ℕ) (i : ℕ) (t : Bytes b) (h : 1024 * i + 1024 ≤ length 
       ∙ (λ j. next-bytes b i t (omega arith) j ++ body j) ∙ part-more b (1024 * i) 2 1022
 
 -- what is on a chain begins with what was met
-extends : (b : List ℕ) (left : ℕ) (met : List ℕ) (i : ℕ) (ks : List ℕ) → chain_from b left met i ≡ through ks → (j : ℕ) → j < length met → get_or ks j 0 ≡ get_or met j 0
+extends : (b : List ℕ) (left : ℕ) (met : List ℕ) (i : ℕ) (ks : List ℕ) → chain_from b left met i ≡ Some ks → (j : ℕ) → j < length met → get_or ks j 0 ≡ get_or met j 0
 unfolding chain_from on_chain is_broken
 extends b zero met i ks e j h = go (eqb (next_of b i) 0) e
   where
-    go : (t : Bool) → cond t (through met) broken ≡ through ks → get_or ks j 0 ≡ get_or met j 0
-    go true p = ap (λ (c : Chain). get_or (on_chain c) j 0) (sym p)
+    go : (t : Bool) → cond t (Some met) None ≡ Some ks → get_or ks j 0 ≡ get_or met j 0
+    go true p = ap (λ (c : Option (List ℕ)). get_or (on_chain c) j 0) (sym p)
     go false p = absurd (false≢true (sym (ap is_broken p)))
 extends b (suc left) met i ks e j h = go (extends b left (met ++ next_of b i ∷ []) (next_of b i) ks) (eqb (next_of b i) 0) (leb (records_in b) (next_of b i) || is_among (next_of b i) met) e
   where
-    go : (chain_from b left (met ++ next_of b i ∷ []) (next_of b i) ≡ through ks → (j : ℕ) → j < length (met ++ next_of b i ∷ []) → get_or ks j 0 ≡ get_or (met ++ next_of b i ∷ []) j 0)
-        → (t s : Bool) → cond t (through met) (cond s broken (chain_from b left (met ++ next_of b i ∷ []) (next_of b i))) ≡ through ks → get_or ks j 0 ≡ get_or met j 0
-    go again true s p = ap (λ (c : Chain). get_or (on_chain c) j 0) (sym p)
+    go : (chain_from b left (met ++ next_of b i ∷ []) (next_of b i) ≡ Some ks → (j : ℕ) → j < length (met ++ next_of b i ∷ []) → get_or ks j 0 ≡ get_or (met ++ next_of b i ∷ []) j 0)
+        → (t s : Bool) → cond t (Some met) (cond s None (chain_from b left (met ++ next_of b i ∷ []) (next_of b i))) ≡ Some ks → get_or ks j 0 ≡ get_or met j 0
+    go again true s p = ap (λ (c : Option (List ℕ)). get_or (on_chain c) j 0) (sym p)
     go again false true p = absurd (false≢true (sym (ap is_broken p)))
     go again false false p = again p j (omega (arith, length-append met (next_of b i ∷ []))) ∙ get_or-append met (next_of b i ∷ []) 0 j h
 
@@ -123,11 +123,11 @@ abbrev Ordered : List ℕ → ℕ → ℕ → Type 0
 Ordered b i zero = next_of b i ≡ 0
 Ordered b i (suc left) = (next_of b i ≡ suc i) × Ordered b (suc i) left
 
-ordered : (b : List ℕ) (left : ℕ) (met : List ℕ) (i : ℕ) → chain_from b left met i ≡ through (met ++ up_from (suc i) left) → Ordered b i left
+ordered : (b : List ℕ) (left : ℕ) (met : List ℕ) (i : ℕ) → chain_from b left met i ≡ Some (met ++ up_from (suc i) left) → Ordered b i left
 unfolding chain_from up_from on_chain is_broken
 ordered b zero met i e = go (eqb (next_of b i) 0) refl e
   where
-    go : (t : Bool) → eqb (next_of b i) 0 ≡ t → cond t (through met) broken ≡ through (met ++ []) → next_of b i ≡ 0
+    go : (t : Bool) → eqb (next_of b i) 0 ≡ t → cond t (Some met) None ≡ Some (met ++ []) → next_of b i ≡ 0
     go true q p = eqb-true (next_of b i) 0 q
     go false q p = absurd (false≢true (sym (ap is_broken p)))
 ordered b (suc left) met i e = go (ordered b left (met ++ next_of b i ∷ []) (next_of b i)) (eqb (next_of b i) 0) (leb (records_in b) (next_of b i) || is_among (next_of b i) met) e
@@ -135,19 +135,19 @@ ordered b (suc left) met i e = go (ordered b left (met ++ next_of b i ∷ []) (n
     ks : List ℕ
     ks = met ++ suc i ∷ up_from (suc (suc i)) left
 
-    go : (chain_from b left (met ++ next_of b i ∷ []) (next_of b i) ≡ through ((met ++ next_of b i ∷ []) ++ up_from (suc (next_of b i)) left) → Ordered b (next_of b i) left)
-        → (t s : Bool) → cond t (through met) (cond s broken (chain_from b left (met ++ next_of b i ∷ []) (next_of b i))) ≡ through (met ++ suc i ∷ up_from (suc (suc i)) left)
+    go : (chain_from b left (met ++ next_of b i ∷ []) (next_of b i) ≡ Some ((met ++ next_of b i ∷ []) ++ up_from (suc (next_of b i)) left) → Ordered b (next_of b i) left)
+        → (t s : Bool) → cond t (Some met) (cond s None (chain_from b left (met ++ next_of b i ∷ []) (next_of b i))) ≡ Some (met ++ suc i ∷ up_from (suc (suc i)) left)
         → (next_of b i ≡ suc i) × Ordered b (suc i) left
     go again true s p =
-        absurd (omega (arith, ap (λ (c : Chain). length (on_chain c)) p, length-append met (suc i ∷ up_from (suc (suc i)) left)))
+        absurd (omega (arith, ap (λ (c : Option (List ℕ)). length (on_chain c)) p, length-append met (suc i ∷ up_from (suc (suc i)) left)))
     go again false true p = absurd (false≢true (sym (ap is_broken p)))
     go again false false p =
         let m = met ++ next_of b i ∷ [] in
         let n : next_of b i ≡ suc i =
         sym (get_or-append_seam met (next_of b i) [] 0) ∙ sym (extends b left m (next_of b i) ks p (length met) (omega (arith, length-append met (next_of b i ∷ []))))
         ∙ get_or-append_seam met (suc i) (up_from (suc (suc i)) left) 0 in
-        let q : chain_from b left m (next_of b i) ≡ through (m ++ up_from (suc (next_of b i)) left) =
-        p ∙ ap through (sym (append_snoc met (suc i) (up_from (suc (suc i)) left))) ∙ ap (λ (k : ℕ). through (met ++ k ∷ [] ++ up_from (suc k) left)) (sym n) in
+        let q : chain_from b left m (next_of b i) ≡ Some (m ++ up_from (suc (next_of b i)) left) =
+        p ∙ ap Some (sym (append_snoc met (suc i) (up_from (suc (suc i)) left))) ∙ ap (λ (k : ℕ). Some (met ++ k ∷ [] ++ up_from (suc k) left)) (sym n) in
         (n, subst (λ (k : ℕ). Ordered b k left) n (again q))
 
 link_is : (b : List ℕ) (i n : ℕ) (f : ℕ → Recorded) → Ordered b i n → link_to 0 (suc i) (map f (up_from (suc i) n)) ≡ next_of b i
@@ -186,8 +186,8 @@ one_byte b at t h = ap (λ (n : ℕ). n ∷ []) (mod-eq_of_lt (t at)) ∙ sym (a
 head_again : (b : List ℕ) → Bytes b → 1024 ≤ length b → is_head b ≡ true → head_bytes (next_of b 0) (rate_in b) (count_in b) ≡ take 1024 b
 unfolding is_head head_bytes
 head_again b t h e =
-    let s = both (same (drop 2 b) (letters "YARD") 4) (zeros b 8 1016) e in
-    let m : letters "YARD" ≡ take 4 (drop 2 b) = sym (same-part (drop 2 b) (letters "YARD") 4 (omega (arith, length-drop 2 b)) (omega arith) s.0) in
+    let s = both (same (drop 2 b) (codes "YARD") 4) (zeros b 8 1016) e in
+    let m : codes "YARD" ≡ take 4 (drop 2 b) = sym (same-part (drop 2 b) (codes "YARD") 4 (omega (arith, length-drop 2 b)) (omega arith) s.0) in
     let z = zeros_of b 8 1016 (omega arith) s.1 in
     (λ i. next-bytes b 0 t (omega arith) i ++ m i ++ one_byte b 6 t (omega arith) i ++ one_byte b 7 t (omega arith) i ++ sym z i)
     ∙ ap (λ (c : List ℕ). c ++ take 1 (drop 6 b) ++ take 1 (drop 7 b) ++ take 1016 (drop 8 b)) (part-more b 0 2 4)
@@ -195,10 +195,10 @@ head_again b t h e =
     ∙ ap (λ (c : List ℕ). c ++ take 1016 (drop 8 b)) (part-more b 0 7 1)
     ∙ part-more b 0 8 1016
 
-unbroken : (c : Chain) → is_broken c ≡ false → c ≡ through (on_chain c)
+unbroken : (c : Option (List ℕ)) → is_broken c ≡ false → c ≡ Some (on_chain c)
 unfolding is_broken on_chain
-unbroken (through ks) e = refl
-unbroken broken e = absurd (false≢true (sym e))
+unbroken (Some ks) e = refl
+unbroken None e = absurd (false≢true (sym e))
 
 -- record 0 and the records of m frames
 whole_again : (b : List ℕ) (m : ℕ) → Bytes b → 1024 * suc m ≡ length b → is_head b ≡ true → Ordered b 0 m → are_frames b (up_from 1 m) ≡ true
@@ -221,6 +221,6 @@ read_again b t a o =
     let w = whole (length b) r.whole in
     let m : ℕ = records_in b - 1 in
     let l : 1024 * suc (length b / 1024 - 1) ≡ length b = omega (arith, w.all, w.some) in
-    let s = ordered b m [] 0 (unbroken (chain_of b) r.chain ∙ ap through o) in
+    let s = ordered b m [] 0 (unbroken (chain_of b) r.chain ∙ ap Some o) in
     ap (λ (ks : List ℕ). recording_bytes (rate_in b) (count_in b) (map (recorded_at b) ks)) o
     ∙ whole_again b m t l r.head s (subst (λ (ks : List ℕ). are_frames b ks ≡ true) o r.frames)

@@ -9,8 +9,9 @@ use borrow.Author.Tests.{ltb-false, ne_eqb}
 use lib.Dec.{ltb, eqb}
 use lib.IntN.{ℤ, pos, negsuc}
 use lib.ListN.{length, get_or, drop, replicate}
-use Rattle.stability.specs.declared.Stability.{Stability}
-use Rattle.stability.specs.declared.Stability.TheVariants.{Stable, Sum, Coefficient, Gain, Overflow}
+use Rattle.std.specs.Prelude.{Ok, Err}
+use Rattle.stability.specs.Stability.{Stability}
+use Rattle.stability.specs.declared.Unstable.TheVariants.{Sum, Coefficient, Gain, Overflow}
 use Rattle.sentence.specs.Sentence.{digits, decimal, signed, words, number, sentence, filled, sentence_of}
 use Rattle.sentence.specs.Apart.{NoTwo}
 
@@ -79,21 +80,21 @@ signed_back (negsuc n) k = rw (decimal-back (suc n) k) refl
 -- a sentence read back: by its first letter, and by the one behind "unstable, "
 reading : ℕ → ℕ → List ℕ → Stability
 reading first eleventh text =
-    cond (eqb first 115) (Stable (signed_value (drop 21 text)))
-    (cond (eqb eleventh 115) Sum
-    (cond (eqb eleventh 99) (Coefficient (value_from 0 (drop 40 text)))
-    (cond (eqb eleventh 103) (Gain (value_from 0 (drop 33 text))) (Overflow (value_from 0 (drop 27 text))))))
+    cond (eqb first 115) (Ok (signed_value (drop 21 text)))
+    (cond (eqb eleventh 115) (Err Sum)
+    (cond (eqb eleventh 99) (Err (Coefficient (value_from 0 (drop 40 text))))
+    (cond (eqb eleventh 103) (Err (Gain (value_from 0 (drop 33 text)))) (Err (Overflow (value_from 0 (drop 27 text)))))))
 
 abbrev read : List ℕ → Stability
 read text = reading (get_or text 0 0) (get_or text 10 0) text
 
 read_back : (s : Stability) (k : ℕ) → read (sentence s ++ replicate k 0) ≡ s
 unfolding sentence words number reading
-read_back (Stable g) k = ap Stable (signed_back g k)
-read_back Sum k = refl
-read_back (Coefficient n) k = ap Coefficient (decimal-back n k)
-read_back (Gain n) k = ap Gain (decimal-back n k)
-read_back (Overflow n) k = ap Overflow (decimal-back n k)
+read_back (Ok g) k = λ i. Ok (signed_back g k i)
+read_back (Err Sum) k = refl
+read_back (Err (Coefficient n)) k = λ i. Err (Coefficient (decimal-back n k i))
+read_back (Err (Gain n)) k = λ i. Err (Gain (decimal-back n k i))
+read_back (Err (Overflow n)) k = λ i. Err (Overflow (decimal-back n k i))
 
 plain_back : (s : Stability) → read (sentence s) ≡ s
 plain_back s = ap read (sym (append-nil (sentence s))) ∙ read_back s 0

@@ -1,5 +1,4 @@
 -- The laws of this crate.
 pub mod Digits
 pub mod Texts
-pub mod Answers
 pub mod Apart

@@ -37,7 +37,7 @@ with-with s xs ys h =
       len = n i;
     }
 
-drop-zeros : (n k : ℕ) → drop {A = ℕ} n (replicate k 0) ≡ replicate (k - n) 0
+pub drop-zeros : (n k : ℕ) → drop {A = ℕ} n (replicate k 0) ≡ replicate (k - n) 0
 drop-zeros zero k = rw sub-zero refl
 drop-zeros (suc n) zero = rw zero-sub refl
 drop-zeros (suc n) (suc k) = let e : k - n ≡ suc k - suc n = omega arith in drop-zeros n k ∙ ap (λ (m : ℕ). replicate m 0) e

@@ -1,9 +1,8 @@
 -- Document 02, Note 7: an answer of the stability test as "a sentence of fixed words and at most one number".
-use Rattle.std.specs.Prelude.{ℕ, zero, suc, ◌+◌, ◌-◌, ◌/◌, ◌%◌, cond, List, [], ◌∷◌, ◌++◌, ltb, ℤ, pos, negsuc, length, replicate, take, drop}
+use Rattle.std.specs.Prelude.{ℕ, zero, suc, ◌+◌, ◌-◌, ◌/◌, ◌%◌, cond, List, [], ◌∷◌, ◌++◌, ltb, ℤ, pos, negsuc, length, replicate, take, drop, Ok, Err, codes}
 use Prim.Native.String.{String}
-use Rattle.refusal.specs.Letters.{letters}
-use Rattle.stability.specs.declared.Stability.{Stability}
-use Rattle.stability.specs.declared.Stability.TheVariants.{Stable, Sum, Coefficient, Gain, Overflow}
+use Rattle.stability.specs.Stability.{Stability}
+use Rattle.stability.specs.declared.Unstable.TheVariants.{Sum, Coefficient, Gain, Overflow}
 use Rattle.sentence.specs.declared.Sentence.{Sentence}
 
 -- the decimal digits of n in ASCII, at most f of them: those of its tenth part, then its last one
@@ -21,22 +20,22 @@ signed (negsuc n) = 45 ∷ decimal (suc n)
 
 -- the words of an answer
 unfoldable pub words : Stability → String
-words (Stable g) = "stable, inverse gain "
-words Sum = "unstable, sum too large"
-words (Coefficient k) = "unstable, coefficient too large at step "
-words (Gain k) = "unstable, gain too small at step "
-words (Overflow k) = "unstable, overflow at step "
+words (Ok g) = "stable, inverse gain "
+words (Err Sum) = "unstable, sum too large"
+words (Err (Coefficient k)) = "unstable, coefficient too large at step "
+words (Err (Gain k)) = "unstable, gain too small at step "
+words (Err (Overflow k)) = "unstable, overflow at step "
 
 -- the number after them
 unfoldable pub number : Stability → List ℕ
-number (Stable g) = signed g
-number Sum = []
-number (Coefficient k) = decimal k
-number (Gain k) = decimal k
-number (Overflow k) = decimal k
+number (Ok g) = signed g
+number (Err Sum) = []
+number (Err (Coefficient k)) = decimal k
+number (Err (Gain k)) = decimal k
+number (Err (Overflow k)) = decimal k
 
 unfoldable pub sentence : Stability → List ℕ
-sentence s = letters (words s) ++ number s
+sentence s = codes (words s) ++ number s
 
 -- bytes as the code has them: zeros behind them up to 64
 unfoldable pub filled : List ℕ → Sentence

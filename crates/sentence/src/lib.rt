@@ -3,52 +3,37 @@
 #![tactic(auto)]
 
 ghost use Rattle.std.specs.Prelude.{◌≡◌, [], ◌∷◌, ◌+◌, ◌≤◌, ◌<◌, length};
-ghost use Rattle.refusal.specs.Letters.{letters};
-ghost use Rattle.sentence.specs.Sentence.{decimal, signed, words, filled, sentence_of, with};
+ghost use Rattle.sentence.specs.Sentence.{decimal, signed, filled, sentence_of, with};
 ghost use Rattle.sentence.specs.Apart.{NoTwo};
 
-use stability::{Stability, answer_number, answer_value};
-use word::{abs32, bits32};
+use stability::Unstable;
 
-// A sentence of up to 64 letters, with zeros behind them.
+// A sentence of up to 64 letters, with zeros behind them: post_sentence lends 64 bytes for it, and there is no heap.
 #[derive(Clone, Copy)]
 pub struct Sentence {
     pub letters: [u8; 64],
     pub len: usize,
 }
 
-// The words by the answer's number.
-const WORDS: [[u8; 64]; 5] = [
-    *b"stable, inverse gain \0\0\0\0\0\0\0\0\0\0\0\0\0\0\0\0\0\0\0\0\0\0\0\0\0\0\0\0\0\0\0\0\0\0\0\0\0\0\0\0\0\0\0",
-    *b"unstable, sum too large\0\0\0\0\0\0\0\0\0\0\0\0\0\0\0\0\0\0\0\0\0\0\0\0\0\0\0\0\0\0\0\0\0\0\0\0\0\0\0\0\0",
-    *b"unstable, coefficient too large at step \0\0\0\0\0\0\0\0\0\0\0\0\0\0\0\0\0\0\0\0\0\0\0\0",
-    *b"unstable, gain too small at step \0\0\0\0\0\0\0\0\0\0\0\0\0\0\0\0\0\0\0\0\0\0\0\0\0\0\0\0\0\0\0",
-    *b"unstable, overflow at step \0\0\0\0\0\0\0\0\0\0\0\0\0\0\0\0\0\0\0\0\0\0\0\0\0\0\0\0\0\0\0\0\0\0\0\0\0",
-];
-
-const LENGTHS: [usize; 5] = [21, 23, 40, 33, 27];
-
-fn words_of(s: Stability) -> Sentence
-    ensures { result ≡ filled (letters (words s)) }
+// Words, with zeros behind them.
+fn filled(text: &str) -> Sentence
+    requires { length text.now ≤ 64 }
+    ensures { result ≡ filled text.now }
 {
-    let n = answer_number(s) as usize;
-    let letters = WORDS[n];
-    Sentence {
-        letters,
-        len: LENGTHS[n],
-    }
+    let mut letters = [0; 64];
+    let len = text.len();
+    letters[..len].copy_from_slice(text.as_bytes());
+    Sentence { letters, len }
 }
 
 // One letter more.
-fn with_letter(s: Sentence, b: u8) -> Sentence
+fn with_letter(mut s: Sentence, b: u8) -> Sentence
     requires { s.len < 64 }
     ensures { result ≡ with s (b ∷ []) }
 {
-    let at = s.len;
-    let mut new = s;
-    new.letters[at] = b;
-    new.len = at + 1;
-    new
+    s.letters[s.len] = b;
+    s.len += 1;
+    s
 }
 
 fn with_decimal(s: Sentence, n: u32) -> Sentence
@@ -65,7 +50,7 @@ fn with_number(s: Sentence, v: i32) -> Sentence
     requires { s.len ≤ 40 }
     ensures { result ≡ with s (signed v) }
 {
-    let size = bits32(abs32(v));
+    let size = v.unsigned_abs();
     if v < 0 {
         return with_decimal(with_letter(s, b'-'), size);
     }
@@ -77,12 +62,23 @@ pub fn no_two()
     ensures { NoTwo }
 {}
 
-pub fn sentence_of(s: Stability) -> Sentence
+pub fn sentence_of(s: Result<i32, Unstable>) -> Sentence
     ensures { result ≡ sentence_of s }
 {
-    let words = words_of(s);
-    if answer_number(s) == 1 {
-        return words;
+    match s {
+        Ok(gain) => with_number(filled("stable, inverse gain "), gain),
+        Err(Unstable::Sum) => filled("unstable, sum too large"),
+        Err(Unstable::Coefficient(k)) => {
+            with_decimal(
+                filled("unstable, coefficient too large at step "),
+                u32::from(k),
+            )
+        }
+        Err(Unstable::Gain(k)) => {
+            with_decimal(filled("unstable, gain too small at step "), u32::from(k))
+        }
+        Err(Unstable::Overflow(k)) => {
+            with_decimal(filled("unstable, overflow at step "), u32::from(k))
+        }
     }
-    with_number(words, answer_value(s))
 }

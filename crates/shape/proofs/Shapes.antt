@@ -5,10 +5,11 @@ use mathlib.Core.Bool.{Bool, true, false, cond, ◌||◌}
 use mathlib.Core.Logic.{◌⊎◌, inl, inr}
 use native.Mathlib.Omega.{arith}
 use native.Mathlib.Nat.{mul-le-mul}
-use lib.Dec.{eqb, lit≤}
-use lib.IntN.{ℤ, pos}
-use mir.Syntax.{w32}
-use mir.Val.{of_z}
+use lib.Dec.{T, eqb, lit≤}
+use lib.IntN.{ℤ, pos, nat_abs}
+use lib.Signed.{non_neg}
+use mir.Syntax.{w32, w64}
+use mir.Val.{of_z, Fits}
 use Rattle.word.proofs.Order.{isnt, eq_ℤ_true}
 use Rattle.word.specs.Int.{eq_ℤ}
 use Rattle.shape.specs.Shape.{order_of, is_rate, is_count, rate_of, count_of}
@@ -162,6 +163,10 @@ count_le z = go (is_count z) refl
     go : (b : Bool) → is_count z ≡ b → count_of z ≤ 4
     go true e = (count_range (counts z e)).1
     go false e = rw e (lit≤ tt)
+
+-- a number that is one is not negative
+pub casts : {z : ℤ} (n : ℕ) → n ≤ 16 → z ≡ pos n → T (non_neg z) × Fits w64 (nat_abs z)
+casts n h e = rw e (tt, record { fits = omega arith })
 
 pub order_le : (r : ℕ) → order_of r ≤ 16
 unfolding order_of

@@ -100,41 +100,30 @@ impl Rate {
 pub fn rate_of(khz: i32) -> usize
     ensures { result ≡ rate_of khz }
 {
-    match khz {
-        8 => 8,
-        12 => 12,
-        16 => 16,
-        _ => 0,
-    }
+    if is_rate(khz) { khz as usize } else { 0 }
 }
 
 // The count of subframes as a length, 0 for a number that is none.
 pub fn count_of(nb_subfr: i32) -> usize
     ensures { result ≡ count_of nb_subfr }
 {
-    match nb_subfr {
-        2 => 2,
-        4 => 4,
-        _ => 0,
+    if is_count(nb_subfr) {
+        nb_subfr as usize
+    } else {
+        0
     }
 }
 
 pub fn is_rate(khz: i32) -> bool
     ensures { result ≡ is_rate khz }
 {
-    match khz {
-        8 | 12 | 16 => true,
-        _ => false,
-    }
+    matches!(khz, 8 | 12 | 16)
 }
 
 pub fn is_count(nb_subfr: i32) -> bool
     ensures { result ≡ is_count nb_subfr }
 {
-    match nb_subfr {
-        2 | 4 => true,
-        _ => false,
-    }
+    matches!(nb_subfr, 2 | 4)
 }
 
 // The samples of a frame, 0 for a shape that is none.

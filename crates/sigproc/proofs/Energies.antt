@@ -1,5 +1,5 @@
 -- The energy of up to 320 samples: nothing wraps, the energy stays below 2 ^ 29 and its shift is at most 10.
-use Rattle.std.proofs.Common.{◌≡◌, ℕ, zero, suc, ◌+◌, ◌-◌, ◌*◌, ◌/◌, ◌%◌, ◌^◌, ◌<◌, ◌≤◌, Bool, true, false, ltb, List, length, ℤ, pos, negsuc, ◌*ℤ◌, nat_abs, refl, ap, ◌∙◌, subst, le_trans, lt_of_lt_of_le, lt_of_le_of_lt, mul-le-mul_right, mod-lt, mod-eq_of_lt, mul-le-mul, pow-suc, arith, pow_pos, pow_mono, pow-add, shl_lt, shr-shr, ltb-false, ltb-true}
+use Rattle.std.proofs.Common.{◌≡◌, ℕ, zero, suc, ◌+◌, ◌-◌, ◌*◌, ◌/◌, ◌%◌, ◌^◌, ◌<◌, ◌≤◌, Bool, true, false, ltb, List, length, ℤ, pos, refl, ap, ◌∙◌, subst, le_trans, lt_of_lt_of_le, lt_of_le_of_lt, mul-le-mul_right, mod-lt, mod-eq_of_lt, mul-le-mul, pow-suc, arith, pow_pos, pow_mono, pow-add, shl_lt, shr-shr, ltb-false, ltb-true}
 use native.Mathlib.Nat.{lt_of_mul-lt-mul_left, mul-div-le}
 use lib.Count.{count_leading_zeros, leading_top}
 use lib.Pow.{split}
@@ -7,10 +7,6 @@ use Rattle.word.specs.Size.{Bounded}
 use Rattle.word.proofs.Lists.{beyond}
 use Rattle.macros.specs.Fixed.{clz32}
 use Rattle.sigproc.specs.Energy.{square, pairs, energy_at, first_shift, energy_shift, sum_sqr_shift}
-
-pub square-is : (a : ℤ) → a *ℤ a ≡ pos (nat_abs a * nat_abs a)
-square-is (pos n) = refl
-square-is (negsuc n) = refl
 
 -- ---- the samples in pairs
 pub energy_even : (x : List ℤ) (s : ℕ) → length x % 2 ≡ 0 → energy_at x s ≡ pairs x s (length x / 2)

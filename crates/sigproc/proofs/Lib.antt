@@ -1,5 +1,4 @@
 -- The laws of this crate.
-pub mod Orders
 pub mod Fill
 pub mod Ranges
 pub mod Places

@@ -1,6 +1,6 @@
 -- Lists stored into a place of another, and the history of played samples.
-use Rattle.std.proofs.Common.{◌≡◌, ℕ, zero, suc, ◌+◌, ◌-◌, ◌≤◌, List, [], ◌∷◌, ◌++◌, length, take, drop, ℤ, sym, refl, ap, ◌∙◌, append-nil, zero-add, arith, length-append, length-drop, drop_of_length-le, length-take, length-take-le, take_all, take-take, drop-drop, take_at, take-add, drop_at}
-use lib.Seq.{take-append_seam, drop-append-add, drop-length, take-nil, take-append-le}
+use Rattle.std.proofs.Common.{◌≡◌, ℕ, zero, suc, ◌+◌, ◌-◌, ◌≤◌, List, [], ◌∷◌, ◌++◌, length, take, drop, ℤ, sym, refl, ap, ◌∙◌, append-nil, zero-add, arith, length-append, length-drop, drop_of_length-le, length-take, length-take-le, take-take, take_at, take-add, drop_at}
+use lib.Seq.{take-nil, take-append-le}
 use Rattle.sigproc.specs.Place.{put_at, rotate_left, update_out_buf}
 
 -- a part of the front
@@ -18,23 +18,6 @@ length-put_at d at s h = simp (length-append, length-take, length-drop) (omega a
 pub put_whole : (d s : List ℤ) → length d ≡ length s → put_at d 0 s ≡ s
 unfolding put_at
 put_whole d s e = rw (zero-add (length s), drop_of_length-le d {i = length s} (omega arith)) (append-nil s)
-
--- two parts that together are as long as the whole, stored one after the other
-pub put_two : (z a b : List ℤ) → length a + length b ≡ length z → put_at (put_at z 0 a) (length a) b ≡ a ++ b
-unfolding put_at
-put_two z a b e =
-    let d : List ℤ = drop (length a) z in
-    rw (zero-add, take-append_seam a d, drop-append-add a d (length b), drop-drop (length b) (length a) z, e, drop-length z, append-nil (a ++ b))
-
--- a rotation is two copies
-pub rotate : (z ob : List ℤ) (k n : ℕ) → length z ≡ k → length ob ≡ k → n ≤ k
-    → put_at (put_at z 0 (take (k - n) (drop n ob))) (k - n) (take n ob) ≡ rotate_left n ob
-unfolding rotate_left
-rotate z ob k n hz ho h =
-    let ld : length (drop n ob) ≡ k - n = rw (length-drop, ho) in
-    let ta : take (k - n) (drop n ob) ≡ drop n ob = take_all (k - n) (drop n ob) (omega arith) in
-    let lt : length (take n ob) ≡ n = length-take-le n ob (omega arith) in
-    rw (ta, ← ld) (put_two z (drop n ob) (take n ob) (omega arith))
 
 pub length-rotate_left : (n : ℕ) (xs : List ℤ) → length (rotate_left n xs) ≡ length xs
 unfolding rotate_left

@@ -1,5 +1,6 @@
 -- Bandwidth expansion: which places it changes, and how much smaller the coefficients get with the chirp of a lost frame.
-use Rattle.std.proofs.Common.{◌≡◌, ℕ, zero, suc, ◌+◌, ◌-◌, ◌*◌, ◌/◌, ◌<◌, ◌≤◌, Bool, true, false, ltb, List, length, get_or, set, ℤ, pos, negsuc, ◌+ℤ◌, ◌*ℤ◌, nat_abs, refl, ◌∙◌, subst, le_refl, mul-le-mul_right, arith, length-set, get_or-set_other, w16, w32, SFits, ltb-false, ltb-true}
+use Rattle.std.proofs.Common.{◌≡◌, ℕ, zero, suc, ◌+◌, ◌-◌, ◌*◌, ◌/◌, ◌<◌, ◌≤◌, Bool, true, false, ltb, List, ◌++◌, length, get_or, take, drop, set, ℤ, pos, negsuc, ◌+ℤ◌, ◌*ℤ◌, nat_abs, refl, ◌∙◌, subst, le_refl, mul-le-mul_right, arith, length-set, get_or-set_other, length-take-le, take-append-drop, w16, w32, SFits, ltb-false, ltb-true}
+use Rattle.std.proofs.lemmas.List.{get_or-take, set-append_left}
 use Rattle.word.specs.Int.{floor_div}
 use Rattle.word.specs.Size.{size_at, sizes}
 use Rattle.word.proofs.Parts.{P, N, add_parts, mul-parts, div_parts}
@@ -22,6 +23,16 @@ expand_past chirp a zero i h = refl
 expand_past chirp a (suc d) i h =
     get_or-set_other (bwexpander chirp a d) d i (shrunk (factor chirp d) (get_or a d (pos 0))) (pos 0) (λ e. omega arith)
     ∙ expand_past chirp a d i (omega arith)
+
+-- the front alone
+pub expand_front : (chirp : ℤ) (a : List ℤ) (d j : ℕ) → j ≤ d → d ≤ length a → bwexpander chirp (take d a) j ++ drop d a ≡ bwexpander chirp a j
+unfolding bwexpander
+expand_front chirp a d zero h k = take-append-drop d a
+expand_front chirp a d (suc j) h k =
+    let b = bwexpander chirp (take d a) j in
+    let n : length b ≡ d = length-bwexpander chirp (take d a) j ∙ length-take-le d a k in
+    let v = shrunk (factor chirp j) (get_or a j (pos 0)) in
+    rw (get_or-take d a j (pos 0) h, ← set-append_left b (drop d a) j v (omega arith), expand_front chirp a d j (omega arith) k) refl
 
 -- ---- the chirp of a lost frame
 -- from 0 to B

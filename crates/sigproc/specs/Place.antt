@@ -2,7 +2,7 @@
 use Rattle.std.specs.Prelude.{ℕ, ◌+◌, ◌-◌, List, ◌++◌, length, take, drop, ℤ}
 
 -- d with the elements from place `at` on replaced by all of s
-unfoldable pub put_at : List ℤ → ℕ → List ℤ → List ℤ
+unfoldable pub put_at : {A : Type 0} → List A → ℕ → List A → List A
 put_at d at s = take at d ++ s ++ drop (at + length s) d
 
 -- n places to the left, round the end

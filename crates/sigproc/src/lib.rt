@@ -15,26 +15,15 @@ use macros::{
     silk_add_sat32, silk_lshift_sat32, silk_rshift_round, silk_rshift_round64, silk_smlawb,
     silk_smulbb, silk_smull, silk_smulww,
 };
-use std::num::wrapping_add_u32;
 use word::{add32, low16, low32, mul16, sat16, shl32, shr32, sub32, wide16};
 
 // All of src, stored from place at on.
-pub fn copy16_at(dst: &mut [i16], at: usize, src: &[i16])
+#[tactic(auto, unfolding(crate::specs::Place::put_at))]
+pub fn copy_at<T: Copy>(dst: &mut [T], at: usize, src: &[T])
     requires { at + length src.now ≤ length dst.old }
     ensures { dst.new ≡ put_at dst.old at src.now }
 {
-    for i in 0..src.len() {
-        dst[at + i] = src[i];
-    }
-}
-
-pub fn copy32_at(dst: &mut [i32], at: usize, src: &[i32])
-    requires { at + length src.now ≤ length dst.old }
-    ensures { dst.new ≡ put_at dst.old at src.now }
-{
-    for i in 0..src.len() {
-        dst[at + i] = src[i];
-    }
+    dst[at..at + src.len()].copy_from_slice(src);
 }
 
 // The first d numbers new, and the others as they were held.
@@ -43,20 +32,22 @@ pub fn with_front(held: [i16; 16], new: [i16; 16], d: usize) -> [i16; 16]
     ensures { result ≡ take d new ++ drop d held }
 {
     let mut r = held;
-    copy16_at(&mut r, 0, &new[..d]);
+    r[..d].copy_from_slice(&new[..d]);
     r
 }
 
 // The buffer rotated by a frame's length, and the frame at the end of a history of mem samples.
+#[tactic(auto, unfolding(crate::specs::Place::rotate_left, crate::specs::Place::update_out_buf))]
 pub fn update_out_buf(ob: [i16; 480], mem: usize, xq: &[i16]) -> [i16; 480]
     requires { (length xq.now ≤ mem) × (mem ≤ 480) }
     ensures { result ≡ update_out_buf ob mem xq.now }
 {
     let n = xq.len();
     let mut new = ob;
-    copy16_at(&mut new, 0, &ob[n..480]);
-    copy16_at(&mut new, 480 - n, &ob[..n]);
-    copy16_at(&mut new, mem - n, xq);
+    // Two copies: the library's rotate_left clears 4 kB of room first.
+    new[..480 - n].copy_from_slice(&ob[n..]);
+    new[480 - n..].copy_from_slice(&ob[..n]);
+    copy_at(&mut new, mem - n, xq);
     new
 }
 
@@ -78,8 +69,8 @@ pub fn silk_bwexpander(ar: &mut [i16; 16], d: usize, chirp_q16: i32)
     ensures { ar.new ≡ bwexpander chirp_q16 ar.old d }
 {
     let mut f = chirp_q16;
-    for j in 0..d {
-        ar[j] = shrunk(f, ar[j]);
+    for a in ar[..d].iter_mut() {
+        *a = shrunk(f, *a);
         f = round_q16(f, chirp_q16);
     }
 }
@@ -89,6 +80,7 @@ fn products(x: &[i16], b: &[i16; 16], d: usize, i: usize) -> i32
     ensures { result ≡ products x.now b.now i d }
 {
     let mut sum = 0;
+    // The coefficients go up as the samples go down, so one number names both.
     for j in 0..d {
         sum = add32(sum, silk_smulbb(wide16(x[i - 1 - j]), wide16(b[j])));
     }
@@ -102,16 +94,14 @@ fn residual(x: &[i16], b: &[i16; 16], d: usize, i: usize) -> i16
     sat16(silk_rshift_round(sub32(shl32(wide16(x[i]), 12), products(x, b, d, i)), 12))
 }
 
-// The filter of order d, for a caller that passes a constant.
-fn analysis_filter(out: &mut [i16], input: &[i16], b: &[i16; 16], d: usize)
-    requires { (d ≤ 16) × (d ≤ length input.now) × (length out.old ≡ length input.now) }
-    ensures { out.new ≡ analysis input.now b.now d }
+fn analysis_filter<const ORDER: usize>(out: &mut [i16], input: &[i16], b: &[i16; 16])
+    requires { (ORDER ≤ 16) × (ORDER ≤ length input.now) × (length out.old ≡ length input.now) }
+    ensures { out.new ≡ analysis input.now b.now ORDER }
 {
-    for i in 0..d {
-        out[i] = 0;
-    }
-    for i in d..input.len() {
-        out[i] = residual(input, b, d, i);
+    out[..ORDER].fill(0);
+    // A turn reads the ORDER samples before its own.
+    for i in ORDER..input.len() {
+        out[i] = residual(input, b, ORDER, i);
     }
 }
 
@@ -120,9 +110,9 @@ pub fn silk_lpc_analysis_filter(out: &mut [i16], input: &[i16], b: &[i16; 16], d
     ensures { out.new ≡ analysis input.now b.now d }
 {
     if d == 10 {
-        analysis_filter(out, input, b, 10);
+        analysis_filter::<10>(out, input, b);
     } else {
-        analysis_filter(out, input, b, 16);
+        analysis_filter::<16>(out, input, b);
     }
 }
 
@@ -133,6 +123,7 @@ pub struct Energy {
     pub shift: i32,
 }
 
+#[tactic(auto, using(word::proofs::Words::kept))]
 fn square(a: i16) -> u32
     ensures { (result ≡ unsigned_abs a * unsigned_abs a) × (result ≤ 2 ^ 30) }
 {
@@ -146,20 +137,14 @@ fn energy_at(x: &[i16], s: u32) -> u32
 {
     let n = x.len();
     let mut sum: u32 = 0;
+    // Two samples a turn: the sum of both is shifted, and a last one stands alone.
     for m in 0..n / 2 {
-        sum = wrapping_add_u32(sum, (square(x[2 * m]) + square(x[2 * m + 1])) >> s);
+        sum = sum.wrapping_add((square(x[2 * m]) + square(x[2 * m + 1])) >> s);
     }
     if n % 2 == 0 {
         return sum;
     }
-    wrapping_add_u32(sum, square(x[n - 1]) >> s)
-}
-
-// The difference, or 0.
-fn saturating_sub(a: u32, b: u32) -> u32
-    ensures { result ≡ a - b }
-{
-    if b < a { a - b } else { 0 }
+    sum.wrapping_add(square(x[n - 1]) >> s)
 }
 
 pub fn silk_sum_sqr_shift(x: &[i16]) -> Energy
@@ -167,9 +152,9 @@ pub fn silk_sum_sqr_shift(x: &[i16]) -> Energy
     ensures { result ≡ sum_sqr_shift x.now }
 {
     let n = x.len() as u32;
-    let first = 31 - u32::leading_zeros(n);
-    let zeros = u32::leading_zeros(n + energy_at(x, first));
-    let shift = saturating_sub(first + 3, zeros);
+    let first = 31 - n.leading_zeros();
+    let zeros = (n + energy_at(x, first)).leading_zeros();
+    let shift = (first + 3).saturating_sub(zeros);
     Energy {
         energy: energy_at(x, shift) as i32,
         shift: shift as i32,
@@ -182,8 +167,8 @@ pub fn ltp_prediction(past: &[i32], taps: &[i16; 5], p: usize) -> i32
     ensures { result ≡ ltp_prediction past.now taps.now p 5 }
 {
     let mut sum = 2;
-    for j in 0..5 {
-        sum = silk_smlawb(sum, past[p - j], wide16(taps[j]));
+    for (j, tap) in taps.iter().enumerate() {
+        sum = silk_smlawb(sum, past[p - j], wide16(*tap));
     }
     sum
 }
@@ -206,14 +191,15 @@ fn synthesised(u: i32, p: i32) -> i32
     silk_add_sat32(u, silk_lshift_sat32(p, 4))
 }
 
-// The synthesis of order d, for a caller that passes a constant. A copy of the coefficients can stay in registers.
-fn synthesis_of_order(buf: &mut [i32], a: &[i16; 16], d: usize)
-    requires { (1 ≤ d) × (d ≤ 16) × (16 ≤ length buf.old) }
-    ensures { buf.new ≡ synthesis (take 16 buf.old) (drop 16 buf.old) a.now d (length buf.old - 16) }
+// A copy of the coefficients can stay in registers.
+fn synthesis_of_order<const ORDER: usize>(buf: &mut [i32], a: &[i16; 16])
+    requires { (1 ≤ ORDER) × (ORDER ≤ 16) × (16 ≤ length buf.old) }
+    ensures { buf.new ≡ synthesis (take 16 buf.old) (drop 16 buf.old) a.now ORDER (length buf.old - 16) }
 {
     let coefs = *a;
+    // A turn reads what the turns before it wrote.
     for i in 0..buf.len() - 16 {
-        buf[16 + i] = synthesised(buf[16 + i], prediction(buf, &coefs, d, 16 + i));
+        buf[16 + i] = synthesised(buf[16 + i], prediction(buf, &coefs, ORDER, 16 + i));
     }
 }
 
@@ -223,9 +209,9 @@ pub fn synthesis(buf: &mut [i32], a: &[i16; 16], d: usize)
     ensures { buf.new ≡ synthesis (take 16 buf.old) (drop 16 buf.old) a.now d (length buf.old - 16) }
 {
     if d == 10 {
-        synthesis_of_order(buf, a, 10);
+        synthesis_of_order::<10>(buf, a);
     } else {
-        synthesis_of_order(buf, a, 16);
+        synthesis_of_order::<16>(buf, a);
     }
 }
 
@@ -241,7 +227,8 @@ pub fn scale_out(xq: &mut [i16], s: &[i32], gain_q16: i32)
     ensures { xq.new ≡ map (played gain_q16) s.now }
 {
     let gain_q10 = shr32(gain_q16, 6);
-    for i in 0..s.len() {
-        xq[i] = played_sample(s[i], gain_q10);
+    // Not a zip: after one over `iter_mut` only the length of xq is known.
+    for (i, v) in s.iter().enumerate() {
+        xq[i] = played_sample(*v, gain_q10);
     }
 }

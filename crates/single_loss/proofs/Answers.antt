@@ -1,101 +1,61 @@
 -- The answer for a recording, refused or not.
-use Prim.Native.Nat.{ℕ, ◌≤◌}
+use Prim.Native.Nat.{ℕ}
 use mathlib.Core.Path.{◌≡◌, refl, sym, ap, ◌∙◌}
-use mathlib.Core.Bool.{Bool, true, false, cond, not, ◌||◌}
-use mathlib.Core.List.{List, map}
-use native.Mathlib.Omega.{arith}
-use borrow.Author.Tests.{eq-eqb, ne_eqb}
-use lib.Dec.{eqb}
+use mathlib.Core.Bool.{Bool, true, false, not, ◌||◌}
+use mathlib.Core.List.{List, [], ◌∷◌}
 use lib.IntN.{ℤ, pos}
-use lib.ListN.{length, length-map, take}
-use Rattle.refusal.specs.Refusals.{refusal_number, if_accepted}
-use Rattle.refusal.specs.declared.Refusal.TheVariants.{Nothing, Limit}
+use lib.ListN.{length}
+use Rattle.std.specs.Prelude.{Ok, Err}
+use Rattle.refusal.specs.First.{◌gives◌, first_of}
+use Rattle.refusal.specs.Refusals.{code_of}
+use Rattle.refusal.specs.declared.Refusal.{Refusal}
+use Rattle.refusal.specs.declared.Refusal.TheVariants.{Limit}
+use Rattle.refusal.proofs.Clear.{accepted, clear, refuses, answered_err, answered_ok}
 use Rattle.decoder.specs.Ranges.{within}
-use Rattle.chain.specs.Chain.{is_whole, chain_of, on_chain, padded}
-use Rattle.chain.proofs.Records.{padded-front}
-use Rattle.recording.specs.Frames.{rate_in, count_in, frames_in, recorded_at, Inside}
-use Rattle.recording.specs.Reading.{read_refusal, read_of}
-use Rattle.recording.proofs.Answers.{not_whole, padded_60, few-frames, inside}
+use Rattle.recording.specs.Frames.{rate_in, count_in, frames_in}
+use Rattle.recording.specs.Reading.{read_refusal}
 use Rattle.playback.specs.Playback.{start_of}
 use Rattle.culprit.specs.Search.{passes, is_culprit, first_from}
 use Rattle.single_loss.specs.Answer.{loss_refusal, culprit_at, loss_answer}
-use Rattle.single_loss.specs.declared.Answer.TheVariants.{Refused, Found}
 
-module _ (b : List ℕ) where
-  pub refusal_is : (read_of b).refusal ≡ read_refusal b
-  unfolding read_of
-  refusal_is = refl
+either : (s t : Bool) {f : Refusal} → first_of ((s gives Limit) ∷ []) ≡ Err f → first_of (((s || t) gives Limit) ∷ []) ≡ Err f
+unfolding first_of
+either true t h = h
+either false t {f} h = absurd (refuses f (ap code_of (sym h)))
+
+module _ (b : List ℕ) (l : ℤ) where
+  pub refused : {e : Refusal} → loss_refusal b l ≡ Err e → Err e ≡ loss_answer b l
+  unfolding loss_answer
+  refused h = sym (answered_err (loss_refusal b l) _ h)
 
   -- refused by what reading refuses
-  pub not_read : (l : ℤ) → (refusal_number (read_refusal b) ≡ 0 → ⊥) → Refused (read_refusal b) ≡ loss_answer b l
-  unfolding loss_answer loss_refusal
-  not_read l e =
-      let n = ne_eqb (refusal_number (read_refusal b)) 0 e in
-      sym
-      (ap (λ (t : Bool). let r = cond t (cond (not (within (pos 1) (pos 32767) l) || passes l (rate_in b) (count_in b) (start_of b) (frames_in b)) Limit Nothing) (read_refusal b) in if_accepted r (Found (first_from (culprit_at b l) 0 (length (frames_in b)))) (Refused r)) n
-      ∙ ap (λ (t : Bool). cond t (Found (first_from (culprit_at b l) 0 (length (frames_in b)))) (Refused (read_refusal b))) n)
+  pub unread : {e : Refusal} → read_refusal b ≡ Err e → loss_refusal b l ≡ Err e
+  unfolding loss_refusal
+  unread h = rw h refl
 
   -- a recording that is read
-  module _ (e : refusal_number (read_refusal b) ≡ 0) where
-    whole : is_whole (length b) ≡ true
-    whole = go (is_whole (length b)) refl
-      where
-        go : (t : Bool) → is_whole (length b) ≡ t → t ≡ true
-        go true q = refl
-        go false q = let z = ap refusal_number (not_whole b q) in absurd (omega (arith, z, e))
+  module _ (e : code_of (read_refusal b) ≡ 0) where
+    abbrev already : Bool
+    already = passes l (rate_in b) (count_in b) (start_of b) (frames_in b)
 
-    taken : eqb (refusal_number (read_refusal b)) 0 ≡ true
-    taken = eq-eqb (refusal_number (read_refusal b)) 0 e
+    past-reading : loss_refusal b l ≡ first_of (((not (within (pos 1) (pos 32767) l) || already) gives Limit) ∷ [])
+    unfolding loss_refusal
+    past-reading = rw (accepted (read_refusal b) e) refl
 
-    pub rate_is : (read_of b).rate ≡ rate_in b
-    unfolding read_of
-    rate_is = ap (λ (t : Bool). cond t (rate_in b) (pos 0)) taken
+    -- two rows of one number are one row
+    pub out_of_range : {f : Refusal} → first_of ((not (within (pos 1) (pos 32767) l) gives Limit) ∷ []) ≡ Err f → loss_refusal b l ≡ Err f
+    out_of_range h = past-reading ∙ either (not (within (pos 1) (pos 32767) l)) already h
 
-    pub count_is : (read_of b).subframes ≡ count_in b
-    unfolding read_of
-    count_is = ap (λ (t : Bool). cond t (count_in b) (pos 0)) taken
+    module _ (r : first_of ((not (within (pos 1) (pos 32767) l) gives Limit) ∷ []) ≡ Ok tt) where
+      in-range : not (within (pos 1) (pos 32767) l) ≡ false
+      in-range = (clear ((not (within (pos 1) (pos 32767) l) gives Limit) ∷ []) (ap code_of r)).0
 
-    frames_are : (read_of b).frames ≡ length (on_chain (chain_of b))
-    unfolding read_of
-    frames_are = rw taken
+      by_sound : loss_refusal b l ≡ first_of ((already gives Limit) ∷ [])
+      by_sound = past-reading ∙ ap (λ (t : Bool). first_of (((t || already) gives Limit) ∷ [])) in-range
 
-    records-are : (read_of b).records ≡ padded (on_chain (chain_of b))
-    unfolding read_of
-    records-are = rw taken
+      pub passed_already : {f : Refusal} → first_of ((already gives Limit) ∷ []) ≡ Err f → loss_refusal b l ≡ Err f
+      passed_already h = by_sound ∙ h
 
-    pub records_60 : length (read_of b).records ≡ 60
-    records_60 = rw records-are (padded_60 b whole)
-
-    pub frames-few : (read_of b).frames ≤ length (read_of b).records
-    frames-few = rw (frames_are, records_60) (few-frames b whole)
-
-    pub records_inside : Inside b (read_of b).records
-    records_inside = rw records-are (inside b whole)
-
-    pub frames-is : map (recorded_at b) (take (read_of b).frames (read_of b).records) ≡ frames_in b
-    unfolding frames_in
-    frames-is = (λ i. map (recorded_at b) (take (frames_are i) (records-are i))) ∙ ap (map (recorded_at b)) (padded-front (on_chain (chain_of b)))
-
-    pub frames_count : (read_of b).frames ≡ length (frames_in b)
-    unfolding frames_in
-    frames_count = frames_are ∙ sym (length-map (on_chain (chain_of b)) (recorded_at b))
-
-    -- 23, or what the search finds
-    past-reading : (l : ℤ) (t : Bool) → (not (within (pos 1) (pos 32767) l) || passes l (rate_in b) (count_in b) (start_of b) (frames_in b)) ≡ t
-        → loss_answer b l ≡ (let r = cond t Limit Nothing in if_accepted r (Found (first_from (culprit_at b l) 0 (length (frames_in b)))) (Refused r))
-    unfolding loss_answer loss_refusal
-    past-reading l t q =
-        ap (λ (u : Bool). let r = cond u (cond (not (within (pos 1) (pos 32767) l) || passes l (rate_in b) (count_in b) (start_of b) (frames_in b)) Limit Nothing) (read_refusal b) in if_accepted r (Found (first_from (culprit_at b l) 0 (length (frames_in b)))) (Refused r)) taken
-        ∙ ap (λ (u : Bool). let r = cond u Limit Nothing in if_accepted r (Found (first_from (culprit_at b l) 0 (length (frames_in b)))) (Refused r)) q
-
-    pub out_of_range : (l : ℤ) → within (pos 1) (pos 32767) l ≡ false → Refused Limit ≡ loss_answer b l
-    out_of_range l w =
-        sym (past-reading l true (ap (λ (u : Bool). not u || passes l (rate_in b) (count_in b) (start_of b) (frames_in b)) w))
-
-    pub already : (l : ℤ) → within (pos 1) (pos 32767) l ≡ true → passes l (rate_in b) (count_in b) (start_of b) (frames_in b) ≡ true → Refused Limit ≡ loss_answer b l
-    already l w p = sym (past-reading l true (λ i. not (w i) || p i))
-
-    pub searched : (l : ℤ) → within (pos 1) (pos 32767) l ≡ true → passes l (rate_in b) (count_in b) (start_of b) (frames_in b) ≡ false
-        → Found (first_from (is_culprit l (rate_in b) (count_in b) (start_of b) (frames_in b)) 0 (length (frames_in b))) ≡ loss_answer b l
-    unfolding culprit_at
-    searched l w p = sym (past-reading l false (λ i. not (w i) || p i))
+      pub searched : first_of ((already gives Limit) ∷ []) ≡ Ok tt → Ok (first_from (is_culprit l (rate_in b) (count_in b) (start_of b) (frames_in b)) 0 (length (frames_in b))) ≡ loss_answer b l
+      unfolding loss_answer culprit_at
+      searched h = sym (answered_ok (loss_refusal b l) _ (by_sound ∙ h))

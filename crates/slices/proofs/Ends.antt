@@ -1,75 +1,46 @@
--- The slices after a call, and a frame's answer.
-use mathlib.Core.Path.{◌≡◌, refl, ◌∙◌}
-use mathlib.Core.Bool.{Bool, true, false, cond}
+-- The slices after a call.
+use Prim.Native.Nat.{ℕ, ◌≤◌}
+use mathlib.Core.Path.{◌≡◌, refl, ap, ◌∙◌}
+use mathlib.Core.Bool.{false, false≢true}
 use mathlib.Core.List.{List}
-use lib.Dec.{eqb}
+use native.Mathlib.Omega.{arith}
 use lib.IntN.{ℤ}
 use lib.ListN.{length}
-use Rattle.refusal.specs.Refusals.{refusal_number, if_accepted}
+use Rattle.std.specs.Prelude.{Result, Ok, Err, is_ok}
+use Rattle.refusal.specs.Refusals.{Judged, if_accepted, answered as judged_by}
 use Rattle.refusal.specs.declared.Refusal.{Refusal}
-use Rattle.decoder.specs.declared.SilkDecoderState.{SilkDecoderState}
-use Rattle.decoder.specs.declared.SilkDecoderControl.{SilkDecoderControl}
-use Rattle.decode_frame.specs.Answer.{frame_refusal}
-use Rattle.layout.specs.Layout.{with_words, with_halves}
-use Rattle.layout.specs.Frame.{frame_in, with_lags, with_taps}
-use Rattle.slices.specs.Slices.{Slices, slices, with_state, with_control}
+use Rattle.decode_frame.specs.Answer.{frame_refusal, frame_answer}
+use Rattle.layout.specs.Frame.{FRAME, short_call, frame_in}
+use Rattle.layout.proofs.Slices.{call_long}
+use Rattle.slices.specs.Slices.{Slices, slices, leaves}
 use Rattle.slices.specs.Whole.{refusal_in, answered}
 
--- slices that are each a new one or the one lent are all of one kind
-together : (b : Bool) (x y : Slices)
-    → slices (cond b x.words y.words) (cond b x.halves y.halves) (cond b x.frame y.frame) (cond b x.coefs y.coefs) (cond b x.pulses y.pulses) (cond b x.output y.output) ≡ cond b x y
-together true x y = refl
-together false x y = refl
+-- a call that answers a row leaves what was lent
+pub lent_back : {A B : Type 0} {r : Refusal} (j : Judged) (x : A) (new old : B) → Err r ≡ judged_by j x → if_accepted j new old ≡ old
+lent_back (Ok u) x new old e = absurd (false≢true (ap is_ok e))
+lent_back (Err r) x new old e = refl
 
--- a slice that the call leaves
-pub same : (r : Refusal) (x : List ℤ) → x ≡ if_accepted r x x
-same r x = go (eqb (refusal_number r) 0)
-  where
-    go : (b : Bool) → x ≡ cond b x x
-    go true = refl
-    go false = refl
+-- refused, all slices are as they were lent
+pub refused : {A : Type 0} {r : Refusal} {a : Result A Refusal} {t : Judged} {output : List ℤ} (left : A → Slices) (lent : Slices) → Err r ≡ a → t ≡ Err r → output ≡ lent.output
+    → record { judged = t; after = slices lent.words lent.halves lent.frame lent.coefs lent.pulses output } ≡ leaves a left lent
+refused left lent e h k =
+    (λ i. record { judged = h i; after = slices lent.words lent.halves lent.frame lent.coefs lent.pulses (k i) }) ∙ λ i. leaves (e i) left lent
 
--- samples that the library itself leaves on a refusal
-pub again : (r : Refusal) (x y : List ℤ) → if_accepted r x y ≡ if_accepted r (if_accepted r x y) y
-again r x y = go (eqb (refusal_number r) 0)
-  where
-    go : (b : Bool) → cond b x y ≡ cond b (cond b x y) y
-    go true = refl
-    go false = refl
+-- taken, they are those of its value
+pub taken : {A : Type 0} {x : A} {a : Result A Refusal} {after : Slices} (left : A → Slices) (lent : Slices) → Ok x ≡ a → after ≡ left x → record { judged = Ok tt; after = after } ≡ leaves a left lent
+taken left lent e k = (λ i. record { judged = Ok tt; after = k i }) ∙ λ i. leaves (e i) left lent
 
--- each slice new or as it was lent
-pub ended : (r : Refusal) (new lent : Slices) {w h f k p o : List ℤ}
-    → w ≡ if_accepted r new.words lent.words
-    → h ≡ if_accepted r new.halves lent.halves
-    → f ≡ if_accepted r new.frame lent.frame
-    → k ≡ if_accepted r new.coefs lent.coefs
-    → p ≡ if_accepted r new.pulses lent.pulses
-    → o ≡ if_accepted r new.output lent.output
-    → slices w h f k p o ≡ if_accepted r new lent
-ended r new lent ew eh ef ek ep eo =
-    (λ i. slices (ew i) (eh i) (ef i) (ek i) (ep i) (eo i)) ∙ together (eqb (refusal_number r) 0) new lent
-
--- what the library answers is q and s, and the definition has r and t for them
-module _ (q r : Refusal) (s t : SilkDecoderState) (m : Slices) (output : List ℤ) {w h o : List ℤ} where
-  -- a state is stored
-  pub state_ended : q ≡ r → s ≡ t
-      → (w ≡ if_accepted q (with_words m.words s) m.words) × (h ≡ if_accepted q (with_halves m.halves s) m.halves)
-      → o ≡ if_accepted r output m.output
-      → slices w h m.frame m.coefs m.pulses o ≡ if_accepted r (with_state m t output) m
-  state_ended eq es g eo =
-      ended r (with_state m t output) m (g.0 ∙ λ i. if_accepted (eq i) (with_words m.words (es i)) m.words) (g.1 ∙ λ i. if_accepted (eq i) (with_halves m.halves (es i)) m.halves) (same r m.frame) (same r m.coefs) (same r m.pulses) eo
-
-  -- a state and a description are
-  pub control_ended : (c d : SilkDecoderControl) {f k : List ℤ} → q ≡ r → s ≡ t → c ≡ d
-      → (w ≡ if_accepted q (with_words m.words s) m.words) × (h ≡ if_accepted q (with_halves m.halves s) m.halves)
-      → f ≡ if_accepted q (with_lags m.frame c) m.frame
-      → k ≡ if_accepted q (with_taps m.coefs c) m.coefs
-      → o ≡ if_accepted r output m.output
-      → slices w h f k m.pulses o ≡ if_accepted r (with_control m t d output) m
-  control_ended c d eq es ec g ef ek eo =
-      ended r (with_control m t d output) m (g.0 ∙ λ i. if_accepted (eq i) (with_words m.words (es i)) m.words) (g.1 ∙ λ i. if_accepted (eq i) (with_halves m.halves (es i)) m.halves) (ef ∙ λ i. if_accepted (eq i) (with_lags m.frame (ec i)) m.frame) (ek ∙ λ i. if_accepted (eq i) (with_taps m.coefs (ec i)) m.coefs) (same r m.pulses) eo
+-- a row that a call answers is the one it is judged by
+judged_of : {A : Type 0} (j : Judged) (x : A) (left : A → Slices) (lent : Slices) → j ≡ (leaves (judged_by j x) left lent).judged
+judged_of (Ok u) x left lent = refl
+judged_of (Err r) x left lent = refl
 
 -- a frame that is judged by its slices' lengths is refused as one that is played
-pub judged_alike : (m : Slices) → refusal_in m.words m.halves m.frame m.coefs (length m.pulses) (length m.output) ≡ (answered (frame_in m.frame) m).refusal
-unfolding refusal_in answered frame_refusal
-judged_alike m = refl
+pub judged_alike : (m : Slices) → refusal_in m.words m.halves m.frame m.coefs (length m.pulses) (length m.output) ≡ (answered (frame_in m.frame) m).judged
+unfolding refusal_in answered frame_answer frame_refusal
+judged_alike m = judged_of _ _ _ m
+
+-- slices that are long enough hold a description
+pub described : (words halves frame coefs : ℕ) → short_call words halves frame coefs ≡ false → (FRAME ≤ frame) × (20 ≤ coefs)
+described words halves frame coefs e =
+    let l = call_long words halves frame coefs e in (l.2, omega (arith, l.3))

@@ -1,6 +1,6 @@
 -- The slices of a call on a state and a frame.
-use Rattle.std.specs.Prelude.{List, ℤ}
-use Rattle.refusal.specs.Refusals.{if_accepted}
+use Rattle.std.specs.Prelude.{List, ℤ, Result, Ok, Err}
+use Rattle.refusal.specs.Refusals.{Judged}
 use Rattle.refusal.specs.declared.Refusal.{Refusal}
 use Rattle.decoder.specs.declared.SilkDecoderState.{SilkDecoderState}
 use Rattle.decoder.specs.declared.SilkDecoderControl.{SilkDecoderControl}
@@ -36,11 +36,12 @@ module _ (m : Slices) where
   with_control s c output =
       slices (with_words m.words s) (with_halves m.halves s) (with_lags m.frame c) (with_taps m.coefs c) m.pulses output
 
--- why a call is turned down, and the slices after it
+-- whether a call is turned down and why, and the slices after it
 pub record Answered : Type 0 where
-  pub refusal : Refusal
+  pub judged : Judged
   pub after : Slices
 
--- a call that is refused leaves the slices as they were lent
-abbrev pub unless : Refusal → Slices → Slices → Answered
-unless r new lent = record { refusal = r; after = if_accepted r new lent }
+-- the slices that a call leaves; refused, they are as they were lent
+abbrev pub leaves : {A : Type 0} → Result A Refusal → (A → Slices) → Slices → Answered
+leaves (Ok a) left lent = record { judged = Ok tt; after = left a }
+leaves (Err r) left lent = record { judged = Err r; after = lent }

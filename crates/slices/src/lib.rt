@@ -1,6 +1,6 @@
 // The whole frame on a state and a frame that lie in lent slices, or in parts of them.
 // Inner: every function.
-#![tactic(auto)]
+#![tactic(auto, using(layout::proofs::Slices::call_long))]
 
 ghost use Rattle.std.specs.Prelude.{◌≡◌, false, length};
 ghost use Rattle.decoder.specs.declared.Frame.TheVariants.{Received, Lost};
@@ -8,12 +8,12 @@ ghost use Rattle.layout.specs.Frame.{short_call, frame_in};
 ghost use Rattle.slices.specs.Slices.{slices};
 ghost use Rattle.slices.specs.Whole.{refusal_in, answered};
 
-use decode_frame::{lost_frame, received_frame};
+use decode_frame::{play_lost, play_received};
 use decoder::{Frame, Params};
 use layout::frame::{
-    control_in, frame_in, keep_lags, keep_taps, lines_in, rate_in, rows_in, subframes_in,
+    control_in, frame_in, lines_in, put_lags, put_taps, rate_in, rows_in, subframes_in,
 };
-use layout::{keep_state, state_in};
+use layout::{put_state, state_in};
 use refusal::Refusal;
 
 // Why the frame is turned down, with so many pulses and output samples lent; nothing is written.
@@ -24,7 +24,7 @@ pub fn frame_refusal(
     coefs: &[i16],
     pulses: usize,
     output: usize,
-) -> Refusal
+) -> Result<(), Refusal>
     requires { short_call (length words.now) (length halves.now) (length frame.now) (length coefs.now) ≡ false }
     ensures { result ≡ refusal_in words.now halves.now frame.now coefs.now pulses output }
 {
@@ -45,9 +45,9 @@ fn received(
     coefs: &mut [i16],
     pulses: &[i16],
     output: &mut [i16],
-) -> Refusal
+) -> Result<(), Refusal>
     requires { short_call (length words.old) (length halves.old) (length frame.old) (length coefs.old) ≡ false }
-    ensures { record { refusal = result; after = slices words.new halves.new frame.new coefs.new pulses.now output.new }
+    ensures { record { judged = result; after = slices words.new halves.new frame.new coefs.new pulses.now output.new }
         ≡ answered (Received q) (slices words.old halves.old frame.old coefs.old pulses.now output.old) }
 {
     let s = state_in(words, halves);
@@ -56,14 +56,12 @@ fn received(
     let lines = lines_in(coefs);
     let rate = rate_in(frame);
     let subframes = subframes_in(frame);
-    let a = received_frame(s, rate, subframes, q, c, rows, lines, pulses, output);
-    let refusal = a.refusal;
-    let played = a.state;
-    let played_control = a.control;
-    keep_state(refusal, played, words, halves);
-    keep_lags(refusal, played_control, frame);
-    keep_taps(refusal, played_control, coefs);
-    refusal
+    judge::received(s, rate, subframes, q, c, lines, pulses.len(), output.len())?;
+    let played = play_received(s, rate, subframes, q, c, rows, lines, pulses, output);
+    put_state(&played.state, words, halves);
+    put_lags(&played.control, frame);
+    put_taps(&played.control, coefs);
+    Ok(())
 }
 
 fn lost(
@@ -73,23 +71,21 @@ fn lost(
     coefs: &mut [i16],
     pulses: &[i16],
     output: &mut [i16],
-) -> Refusal
+) -> Result<(), Refusal>
     requires { short_call (length words.old) (length halves.old) (length frame.old) (length coefs.old) ≡ false }
-    ensures { record { refusal = result; after = slices words.new halves.new frame.new coefs.new pulses.now output.new }
+    ensures { record { judged = result; after = slices words.new halves.new frame.new coefs.new pulses.now output.new }
         ≡ answered Lost (slices words.old halves.old frame.old coefs.old pulses.now output.old) }
 {
     let s = state_in(words, halves);
     let c = control_in(frame, coefs);
     let rate = rate_in(frame);
     let subframes = subframes_in(frame);
-    let a = lost_frame(s, rate, subframes, c, output);
-    let refusal = a.refusal;
-    let lost = a.state;
-    let lost_control = a.control;
-    keep_state(refusal, lost, words, halves);
-    keep_lags(refusal, lost_control, frame);
-    keep_taps(refusal, lost_control, coefs);
-    refusal
+    judge::lost(s, rate, subframes, output.len())?;
+    let concealed = play_lost(s, rate, subframes, c, output);
+    put_state(&concealed.state, words, halves);
+    put_lags(&concealed.control, frame);
+    put_taps(&concealed.control, coefs);
+    Ok(())
 }
 
 // The frame, received or lost. Refused, it changes nothing.
@@ -100,9 +96,9 @@ pub fn play_frame(
     coefs: &mut [i16],
     pulses: &[i16],
     output: &mut [i16],
-) -> Refusal
+) -> Result<(), Refusal>
     requires { short_call (length words.old) (length halves.old) (length frame.old) (length coefs.old) ≡ false }
-    ensures { record { refusal = result; after = slices words.new halves.new frame.new coefs.new pulses.now output.new }
+    ensures { record { judged = result; after = slices words.new halves.new frame.new coefs.new pulses.now output.new }
         ≡ answered (frame_in frame.old) (slices words.old halves.old frame.old coefs.old pulses.now output.old) }
 {
     let f = frame_in(frame);

@@ -13,14 +13,14 @@ use lib.ListN.{get_or, length}
 use lib.Signed.{lt_z, le_z}
 use mir.Syntax.{w32}
 use mir.Val.{SFits}
+use Rattle.std.specs.Prelude.{Ok, Err}
 use Rattle.word.specs.Int.{floor_div, wrap32}
 use Rattle.word.proofs.Parts.{eq_parts, sub_parts_ℤ}
 use Rattle.word.proofs.Sizes.{abs-fits, fits-abs}
 use Rattle.word.proofs.Words.{wrap_id, wrap-fits}
 use Rattle.macros.specs.Fixed.{smmul}
-use Rattle.stability.specs.Stability.{reflection, rc_mult1, next_gain, next_coefficients, goes_on, step, steps, total, a_limit, stability_by, stability, inverse_gain}
-use Rattle.stability.specs.declared.Stability.{Stability}
-use Rattle.stability.specs.declared.Stability.TheVariants.{Stable, Sum, Coefficient, Gain, Overflow}
+use Rattle.stability.specs.Stability.{reflection, rc_mult1, next_gain, next_coefficients, goes_on, step, steps, total, a_limit, Stability, stability_by, stability, inverse_gain}
+use Rattle.stability.specs.declared.Unstable.TheVariants.{Sum, Coefficient, Gain, Overflow}
 use Rattle.stability.proofs.Turns.{then_holds}
 
 -- z is a number from 0 to B
@@ -62,17 +62,14 @@ abbrev Passed : ℤ → Type 0
 Passed g = (n : ℕ) × (g ≡ pos n) × (107374 ≤ n) × (n ≤ 2 ^ 30)
 
 abbrev Ranged : Stability → Type 0
-Ranged (Stable g) = Passed g
-Ranged Sum = Unit
-Ranged (Coefficient k) = Unit
-Ranged (Gain k) = Unit
-Ranged (Overflow k) = Unit
+Ranged (Ok g) = Passed g
+Ranged (Err why) = Unit
 
 step_ranged : (limit : ℕ) (a g : ℤ) (k : ℕ) → UpTo (2 ^ 30) g → Ranged (step limit a g k)
 unfolding step reflection
 step_ranged limit a g k u = go (ltb limit (nat_abs a)) (lt_z (next_gain (reflection a) g) (pos 107374)) refl (gain_range (reflection a) g (wrap-fits w32 _) u)
   where
-    go : (b t : Bool) → lt_z (next_gain (reflection a) g) (pos 107374) ≡ t → UpTo (2 ^ 30) (next_gain (reflection a) g) → Ranged (cond b (Coefficient k) (cond t (Gain k) (Stable (next_gain (reflection a) g))))
+    go : (b t : Bool) → lt_z (next_gain (reflection a) g) (pos 107374) ≡ t → UpTo (2 ^ 30) (next_gain (reflection a) g) → Ranged (cond b (Err (Coefficient k)) (cond t (Err (Gain k)) (Ok (next_gain (reflection a) g))))
     go true t e v = tt
     go false true e v = tt
     go false false e v =
@@ -86,7 +83,7 @@ steps_ranged limit e a g (suc k) u =
     then_holds Ranged (step limit (get_or a (suc k) (pos 0)) g (suc k)) _ (step_ranged limit (get_or a (suc k) (pos 0)) g (suc k) u)
     (λ x v. go (goes_on e (next_coefficients a (suc k))) x (steps_ranged limit e (map wrap32 (next_coefficients a (suc k))) x k (v.0, v.1, v.3)))
   where
-    go : (b : Bool) (x : ℤ) → Ranged (steps limit e (map wrap32 (next_coefficients a (suc k))) x k) → Ranged (cond b (steps limit e (map wrap32 (next_coefficients a (suc k))) x k) (Overflow (suc k)))
+    go : (b : Bool) (x : ℤ) → Ranged (steps limit e (map wrap32 (next_coefficients a (suc k))) x k) → Ranged (cond b (steps limit e (map wrap32 (next_coefficients a (suc k))) x k) (Err (Overflow (suc k))))
     go true x h = h
     go false x h = tt
 
@@ -94,17 +91,14 @@ whole_ranged : (limit : ℕ) (e : ℤ) (a : List ℤ) → Ranged (stability_by l
 unfolding stability_by
 whole_ranged limit e a = go (le_z (pos 4096) (total a (length a))) _ (steps_ranged limit e _ (pos (2 ^ 30)) (length a - 1) (2 ^ 30, refl, le_refl (2 ^ 30)))
   where
-    go : (b : Bool) (s : Stability) → Ranged s → Ranged (cond b Sum s)
+    go : (b : Bool) (s : Stability) → Ranged s → Ranged (cond b (Err Sum) s)
     go true s h = tt
     go false s h = h
 
 number : (s : Stability) → Ranged s → (n : ℕ) × (inverse_gain s ≡ pos n) × (n ≤ 2 ^ 30) × ((n ≡ 0) ⊎ (107374 ≤ n))
 unfolding inverse_gain
-number (Stable g) h = (h.0, h.1, h.3, inr h.2)
-number Sum h = (0, refl, omega arith, inl refl)
-number (Coefficient k) h = (0, refl, omega arith, inl refl)
-number (Gain k) h = (0, refl, omega arith, inl refl)
-number (Overflow k) h = (0, refl, omega arith, inl refl)
+number (Ok g) h = (h.0, h.1, h.3, inr h.2)
+number (Err why) h = (0, refl, omega arith, inl refl)
 
 -- the inverse gain is 0, or from 107,374 to 2 ^ 30
 pub inverse_gain-by : (limit : ℕ) (e : ℤ) (a : List ℤ) → (n : ℕ) × (inverse_gain (stability_by limit e a) ≡ pos n) × (n ≤ 2 ^ 30) × ((n ≡ 0) ⊎ (107374 ≤ n))

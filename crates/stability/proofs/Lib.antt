@@ -5,3 +5,4 @@ pub mod Ends
 pub mod Turns
 pub mod Gains
 pub mod Limits
+pub mod Kept

@@ -1,13 +1,10 @@
 -- The numbers of a step.
 use Prim.Native.Nat.{ℕ, zero, suc, ◌+◌, ◌-◌, ◌≤◌}
 use mathlib.Core.Path.{◌≡◌, refl, sym, ap, ◌∙◌}
-use mathlib.Core.Bool.{Bool, true, false, ◌&&◌, and-true, and_assoc}
+use mathlib.Core.Bool.{Bool, ◌&&◌, and-true, and_assoc}
 use mathlib.Core.List.{List, [], ◌∷◌, ◌++◌, map, map-append}
 use native.Mathlib.Omega.{arith}
-use borrow.Author.Tests.{lt-ltb, le-ltb, ltb-true, ltb-false}
-use lib.Dec.{ltb}
-use lib.IntN.{ℤ, pos, negsuc, nat_abs, ◌+ℤ◌, ◌-ℤ◌}
-use lib.Signed.{lt_z}
+use lib.IntN.{ℤ, pos, ◌+ℤ◌, ◌-ℤ◌}
 use mir.Syntax.{w32}
 use Rattle.word.specs.Int.{wrap32}
 use Rattle.word.specs.Tabulate.{tabulate}
@@ -25,19 +22,6 @@ bits_left n h =
 -- a few places more
 pub more-places : (n : ℕ) → n ≤ 32 → wrap32 (pos n +ℤ pos 30) ≡ pos (n + 30)
 more-places n h = wrap_id {w = w32} {z = pos (n + 30)} (abs-fits (pos (n + 30)) (omega arith))
-
--- the size of a number and a limit, by a test on each side
-pub size_above : (L : ℕ) (a : ℤ) → lt_z (pos L) a ≡ true → ltb L (nat_abs a) ≡ true
-size_above L (pos n) e = e
-size_above L (negsuc n) e = cc
-
-pub size_below : (L : ℕ) (a : ℤ) → lt_z a (negsuc L) ≡ true → ltb (suc L) (nat_abs a) ≡ true
-size_below L (pos n) e = cc
-size_below L (negsuc n) e = lt-ltb (suc L) (suc n) (omega (arith, ltb-true L n e))
-
-pub size-within : (L : ℕ) (a : ℤ) → lt_z (pos (suc L)) a ≡ false → lt_z a (negsuc L) ≡ false → ltb (suc L) (nat_abs a) ≡ false
-size-within L (pos n) u l = u
-size-within L (negsuc n) u l = le-ltb (suc L) (suc n) (omega (arith, ltb-false L n l))
 
 pub bit_length_le : (m : ℤ) → bit_length m ≤ 32
 unfolding bit_length

@@ -10,49 +10,45 @@ ghost use Rattle.stability.specs.Limit.{SameAnswer};
 
 use edition::{NEWER, OLDER, is_edition};
 use macros::{silk_clz32, silk_inverse32_varq, silk_rshift_round64, silk_smmul, silk_smull};
-use refusal::Refusal;
-use word::{abs32, add32, low32, neg32, shl32, sub32, wide, wide16};
+use refusal::{Refusal, refuse_if};
+use word::{abs32, add32, low32, neg32, shl32, sub32, wide};
 
-const A_LIMIT: i32 = 16773022;
+const A_LIMIT: u32 = 16773022;
 
-// A filter's inverse gain (Q30), or why there is none, with the place of the step's coefficient.
-#[derive(Clone, Copy)]
-pub enum Stability {
-    Stable(i32),
+// Why a filter has no inverse gain, with the place of the step's coefficient.
+#[derive(Clone, Copy, Debug, PartialEq, Eq)]
+pub enum Unstable {
     Sum,
     Coefficient(u8),
     Gain(u8),
     Overflow(u8),
 }
 
-// The answer of the test as a call.
-#[derive(Clone, Copy)]
-pub struct Tested {
-    pub refusal: Refusal,
-    pub answer: Stability,
-}
-
-pub fn answer_number(s: Stability) -> u8
+// Document 02's number of an answer.
+#[tactic(auto, unfolding(crate::specs::Stability::answer_number))]
+pub fn answer_number(s: Result<i32, Unstable>) -> u8
     ensures { result ≡ answer_number s }
 {
     match s {
-        Stability::Stable(_) => 0,
-        Stability::Sum => 1,
-        Stability::Coefficient(_) => 2,
-        Stability::Gain(_) => 3,
-        Stability::Overflow(_) => 4,
+        Ok(_) => 0,
+        Err(Unstable::Sum) => 1,
+        Err(Unstable::Coefficient(_)) => 2,
+        Err(Unstable::Gain(_)) => 3,
+        Err(Unstable::Overflow(_)) => 4,
     }
 }
 
-pub fn answer_value(s: Stability) -> i32
+// The inverse gain (Q30), or the step's place.
+#[tactic(auto, unfolding(crate::specs::Stability::answer_value))]
+pub fn answer_value(s: Result<i32, Unstable>) -> i32
     ensures { result ≡ answer_value s }
 {
     match s {
-        Stability::Stable(g) => g,
-        Stability::Sum => 0,
-        Stability::Coefficient(k) => k as i32,
-        Stability::Gain(k) => k as i32,
-        Stability::Overflow(k) => k as i32,
+        Ok(gain) => gain,
+        Err(Unstable::Sum) => 0,
+        Err(Unstable::Coefficient(k)) => i32::from(k),
+        Err(Unstable::Gain(k)) => i32::from(k),
+        Err(Unstable::Overflow(k)) => i32::from(k),
     }
 }
 
@@ -62,12 +58,14 @@ fn reflection(a: i32) -> i32
     neg32(shl32(a, 7))
 }
 
+#[tactic(auto, using(crate::proofs::Kept::words), unfolding(crate::specs::Stability::rc_mult1))]
 fn rc_mult1(rc: i32) -> i32
     ensures { result ≡ rc_mult1 rc }
 {
     sub32(1073741824, silk_smmul(rc, rc))
 }
 
+#[tactic(auto, using(crate::proofs::Kept::words), unfolding(crate::specs::Stability::next_gain))]
 fn next_gain(rc: i32, gain: i32) -> i32
     ensures { result ≡ next_gain rc gain }
 {
@@ -80,6 +78,7 @@ fn bit_length(m: i32) -> i32
     sub32(32, silk_clz32(abs32(m)))
 }
 
+#[tactic(auto, using(crate::proofs::Kept::words), unfolding(crate::specs::Stability::mul_q))]
 pub fn mul_q(a: i32, b: i32, q: i32) -> i32
     ensures { result ≡ mul_q a b q }
 {
@@ -99,6 +98,7 @@ fn rc_mult2(m: i32, q: i32) -> i32
     silk_inverse32_varq(m, add32(q, 30))
 }
 
+#[tactic(auto, using(crate::proofs::Kept::words), unfolding(crate::specs::Stability::step_down))]
 fn step_down(rc: i32, mult2: i32, q: i32, x: i32, y: i32) -> i64
     ensures { result ≡ step_down rc mult2 q x y }
 {
@@ -106,23 +106,21 @@ fn step_down(rc: i32, mult2: i32, q: i32, x: i32, y: i32) -> i64
 }
 
 // The two tests of the step at place k.
-fn step(a: i32, gain: i32, k: u8) -> Stability
+fn step(a: i32, gain: i32, k: u8) -> Result<i32, Unstable>
     ensures { result ≡ step a_limit a gain k }
 {
-    if a > A_LIMIT {
-        return Stability::Coefficient(k);
-    }
-    if a < -A_LIMIT {
-        return Stability::Coefficient(k);
+    if a.unsigned_abs() > A_LIMIT {
+        return Err(Unstable::Coefficient(k));
     }
     let next = next_gain(reflection(a), gain);
     if next < 107374 {
-        return Stability::Gain(k);
+        return Err(Unstable::Gain(k));
     }
-    Stability::Stable(next)
+    Ok(next)
 }
 
 // The coefficients below place k after a step, in place from both ends; whether all are numbers of 32 bits.
+// A loop over places, since each turn changes two of one slice.
 fn step_all(rc: i32, mult2: i32, q: i32, a: &mut [i32], k: usize) -> bool
     requires { k ≤ length a.old }
     ensures { (result ≡ all_fit (stepped rc mult2 q a.old k)) × (take k a.new ≡ map wrap32 (stepped rc mult2 q a.old k)) }
@@ -159,79 +157,63 @@ fn goes_on(edition: i32, fits: bool) -> bool
 }
 
 // The steps from the last coefficient (Q24) to the first.
-fn lpc_inverse_pred_gain_qa(a0: [i32; 16], order: usize, edition: i32) -> Stability
+fn lpc_inverse_pred_gain_qa(mut a: [i32; 16], order: usize, edition: i32) -> Result<i32, Unstable>
     requires { (1 ≤ order) × (order ≤ 16) }
-    ensures { result ≡ steps a_limit edition a0 (pos (2 ^ 30)) (order - 1) }
+    ensures { result ≡ steps a_limit edition a (pos (2 ^ 30)) (order - 1) }
 {
-    let mut a = a0;
     let mut gain = 1073741824;
-    let mut k = order - 1;
-    while k > 0 {
-        let s = step(a[k], gain, k as u8);
-        if answer_number(s) != 0 {
-            return s;
-        }
-        gain = answer_value(s);
+    for k in (1..order).rev() {
+        gain = step(a[k], gain, k as u8)?;
         let fits = next_coefficients(&mut a, k);
         if !goes_on(edition, fits) {
-            return Stability::Overflow(k as u8);
+            return Err(Unstable::Overflow(k as u8));
         }
-        k -= 1;
     }
     step(a[0], gain, 0)
 }
 
 // The coefficients added up.
-fn dc_resp(a: &[i16], order: usize) -> i32
-    requires { (order ≤ 16) × (order ≤ length a.now) }
-    ensures { result ≡ total a.now order }
+fn dc_resp(a: &[i16]) -> i32
+    requires { length a.now ≤ 16 }
+    ensures { result ≡ total a.now (length a.now) }
 {
     let mut sum = 0;
-    for k in 0..order {
-        sum = add32(sum, wide16(a[k]));
+    for x in a {
+        sum += i32::from(*x);
     }
     sum
 }
 
-fn zeros() -> [i32; 16]
-    ensures { result ≡ replicate 16 (pos 0) }
-{
-    [0; 16]
-}
-
 // The coefficients in Q24.
-fn in_qa(a: &[i16], order: usize) -> [i32; 16]
-    requires { (order ≤ 16) × (order ≤ length a.now) }
-    ensures { result ≡ map (λ x. x *ℤ pos (2 ^ 12)) (take order a.now) ++ drop order (replicate 16 (pos 0)) }
+fn in_qa(a: &[i16]) -> [i32; 16]
+    requires { length a.now ≤ 16 }
+    ensures { result ≡ map (λ x. x *ℤ pos (2 ^ 12)) a.now ++ drop (length a.now) (replicate 16 (pos 0)) }
 {
-    let mut a_qa = zeros();
-    for k in 0..order {
-        a_qa[k] = shl32(wide16(a[k]), 12);
+    let mut a_qa = [0; 16];
+    for (k, x) in a.iter().enumerate() {
+        a_qa[k] = shl32(i32::from(*x), 12);
     }
     a_qa
 }
 
 // The test of the first order coefficients, for callers whose order is in range.
-pub fn stable_or_why(a: &[i16], order: usize, edition: i32) -> Stability
+pub fn stable_or_why(a: &[i16], order: usize, edition: i32) -> Result<i32, Unstable>
     requires { (1 ≤ order) × (order ≤ 16) × (order ≤ length a.now) }
     ensures { result ≡ stability edition (take order a.now) }
 {
-    if dc_resp(a, order) >= 4096 {
-        return Stability::Sum;
+    if dc_resp(&a[..order]) >= 4096 {
+        return Err(Unstable::Sum);
     }
-    lpc_inverse_pred_gain_qa(in_qa(a, order), order, edition)
+    lpc_inverse_pred_gain_qa(in_qa(&a[..order]), order, edition)
 }
 
 // Its inverse gain alone, 0 if there is none.
+#[tactic(auto, unfolding(crate::specs::Stability::inverse_gain))]
 pub fn inverse_pred_gain(a: &[i16], order: usize, edition: i32) -> i32
     requires { (1 ≤ order) × (order ≤ 16) × (order ≤ length a.now) }
     ensures { result ≡ inverse_gain (stability edition (take order a.now)) }
 {
-    let s = stable_or_why(a, order, edition);
-    if answer_number(s) != 0 {
-        return 0;
-    }
-    answer_value(s)
+    stable_or_why(a, order, edition).unwrap_or(0)
 }
 
 // A lower limit changes no answer but those that become a step's coefficient.
@@ -239,36 +221,32 @@ pub fn same_answer()
     ensures { SameAnswer }
 {}
 
-fn refusal_of(n: usize, order: usize, edition: i32) -> Refusal
+#[tactic(auto, unfolding(crate::specs::Stability::test_refusal, refusal::specs::First::first_of))]
+fn judge(n: usize, order: usize, edition: i32) -> Result<(), Refusal>
     ensures { result ≡ test_refusal n order edition }
 {
-    let other = refusal::first(!is_edition(edition), Refusal::Edition, Refusal::Nothing);
-    refusal::first(
-        (order < 1) | (order > 16) | (n < order),
-        Refusal::Order,
-        other,
-    )
+    refuse_if((order < 1) | (order > 16) | (n < order), Refusal::Order)?;
+    refuse_if(!is_edition(edition), Refusal::Edition)
 }
 
 // The stability test as a call under an edition.
-pub fn silk_lpc_inverse_pred_gain_under(a_q12: &[i16], order: usize, edition: i32) -> Tested
+#[tactic(auto, using(refusal::proofs::Clear::answered_err, refusal::proofs::Clear::answered_ok), unfolding(crate::specs::Stability::tested_under))]
+pub fn silk_lpc_inverse_pred_gain_under(
+    a_q12: &[i16],
+    order: usize,
+    edition: i32,
+) -> Result<Result<i32, Unstable>, Refusal>
     ensures { result ≡ tested_under a_q12.now order edition }
 {
-    let refusal = refusal_of(a_q12.len(), order, edition);
-    if refusal::number(refusal) != 0 {
-        return Tested {
-            refusal,
-            answer: Stability::Stable(0),
-        };
-    }
-    Tested {
-        refusal,
-        answer: stable_or_why(a_q12, order, edition),
-    }
+    judge(a_q12.len(), order, edition)?;
+    Ok(stable_or_why(a_q12, order, edition))
 }
 
 // The same where no edition is named.
-pub fn silk_lpc_inverse_pred_gain(a_q12: &[i16], order: usize) -> Tested
+pub fn silk_lpc_inverse_pred_gain(
+    a_q12: &[i16],
+    order: usize,
+) -> Result<Result<i32, Unstable>, Refusal>
     ensures { result ≡ tested a_q12.now order }
 {
     silk_lpc_inverse_pred_gain_under(a_q12, order, NEWER)

@@ -8,47 +8,42 @@ use Rattle.plc.specs.Answer.{plc_received, plc_lost, plc_lost_output}
 use Rattle.decode_core.specs.Answer.{core_answer, core_output}
 use Rattle.layout.specs.Layout.{with_words, with_halves}
 use Rattle.layout.specs.Frame.{params_in, tapless, rows_in, with_lags}
-use Rattle.slices.specs.Slices.{Slices, slices, state_of, control_of, with_state, with_control, Answered, unless}
+use Rattle.slices.specs.Slices.{Slices, slices, state_of, control_of, with_state, with_control, Answered, leaves}
 
 -- a state for a rate, a count of subframes and settings
 unfoldable pub set_up_on : ℤ → ℤ → Settings → Slices → Answered
 set_up_on rate subframes v m =
-    let a = set_up_with rate subframes v in
-    unless a.refusal (with_state m a.state m.output) m
+    leaves (set_up_with rate subframes v) (λ s. with_state m s m.output) m
 
 -- the synthesis of a received frame
 unfoldable pub core_on : Slices → Answered
 core_on m =
     let q = params_in m.frame in
-    let a = core_answer (state_of m) q (control_of m) (rows_in m.coefs) m.pulses m.output in
     let played = core_output (state_of m) q (control_of m) (rows_in m.coefs) m.pulses m.output in
-    unless a.refusal (with_control m a.state a.control played) m
+    leaves (core_answer (state_of m) q (control_of m) (rows_in m.coefs) m.pulses m.output)
+    (λ a. with_control m a.state a.control played) m
 
 -- what concealment keeps of a received frame
 unfoldable pub plc_received_on : Slices → Answered
 plc_received_on m =
-    let a = plc_received (state_of m) (params_in m.frame) (control_of m) (rows_in m.coefs) in
-    unless a.refusal (with_state m a.state m.output) m
+    leaves (plc_received (state_of m) (params_in m.frame) (control_of m) (rows_in m.coefs)) (λ s. with_state m s m.output) m
 
 -- the concealment of a lost frame, of whose description it writes the lags alone
 unfoldable pub plc_lost_on : Slices → Answered
 plc_lost_on m =
     let c = tapless m.frame in
-    let a = plc_lost (state_of m) c m.output in
     let concealed = plc_lost_output (state_of m) c m.output in
-    unless a.refusal
-    (slices (with_words m.words a.state) (with_halves m.halves a.state) (with_lags m.frame a.control) m.coefs m.pulses concealed)
+    leaves (plc_lost (state_of m) c m.output)
+    (λ a. slices (with_words m.words a.state) (with_halves m.halves a.state) (with_lags m.frame a.control) m.coefs m.pulses concealed)
     m
 
 -- gluing of the first n samples
 unfoldable pub glue_on : ℕ → Slices → Answered
 glue_on n m =
-    let a = glue_answer (state_of m) m.output n in
-    unless a.refusal (with_state m a.state (glue_output (state_of m) m.output n)) m
+    leaves (glue_answer (state_of m) m.output n) (λ s. with_state m s (glue_output (state_of m) m.output n)) m
 
 -- comfort noise on the first n samples
 unfoldable pub noise_on : ℕ → Slices → Answered
 noise_on n m =
     let c = tapless m.frame in
-    let a = cng_answer (state_of m) c m.output n in
-    unless a.refusal (with_state m a.state (cng_output (state_of m) c m.output n)) m
+    leaves (cng_answer (state_of m) c m.output n) (λ s. with_state m s (cng_output (state_of m) c m.output n)) m

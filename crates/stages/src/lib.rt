@@ -12,8 +12,8 @@ use cng::silk_cng;
 use decode_core::silk_decode_core;
 use decoder::Settings;
 use glue::silk_plc_glue_frames;
-use layout::frame::{control_in, keep_lags, keep_taps, params_in, rows_in, tapless};
-use layout::{keep_state, state_in};
+use layout::frame::{control_in, params_in, put_lags, put_taps, rows_in, tapless};
+use layout::{put_state, state_in};
 use plc::conceal::silk_plc_lost;
 use plc::update::silk_plc_received;
 use refusal::Refusal;
@@ -24,18 +24,23 @@ pub fn set_up(
     settings: Settings,
     words: &mut [i32],
     halves: &mut [i16],
-) -> Refusal
+) -> Result<(), Refusal>
     requires { short_state (length words.old) (length halves.old) ≡ false }
-    ensures { record { refusal = result; after = slices words.new halves.new [] [] [] [] }
+    ensures { record { judged = result; after = slices words.new halves.new [] [] [] [] }
         ≡ set_up_on rate subframes settings (slices words.old halves.old [] [] [] []) }
 {
-    let a = decoder::set_up_with(rate, subframes, settings);
-    let refusal = a.refusal;
-    let fresh = a.state;
-    keep_state(refusal, fresh, words, halves);
-    refusal
+    let answer = decoder::set_up_with(rate, subframes, settings);
+    // Not `?`, which copies the state.
+    match &answer {
+        Ok(fresh) => {
+            put_state(fresh, words, halves);
+            Ok(())
+        }
+        Err(refusal) => Err(*refusal),
+    }
 }
 
+#[tactic(auto, using(layout::proofs::Slices::call_long))]
 pub fn core(
     words: &mut [i32],
     halves: &mut [i16],
@@ -43,39 +48,52 @@ pub fn core(
     coefs: &mut [i16],
     pulses: &[i16],
     output: &mut [i16],
-) -> Refusal
+) -> Result<(), Refusal>
     requires { short_call (length words.old) (length halves.old) (length frame.old) (length coefs.old) ≡ false }
-    ensures { record { refusal = result; after = slices words.new halves.new frame.new coefs.new pulses.now output.new }
+    ensures { record { judged = result; after = slices words.new halves.new frame.new coefs.new pulses.now output.new }
         ≡ core_on (slices words.old halves.old frame.old coefs.old pulses.now output.old) }
 {
     let s = state_in(words, halves);
     let q = params_in(frame);
     let c = control_in(frame, coefs);
     let rows = rows_in(coefs);
-    let a = silk_decode_core(s, q, c, rows, pulses, output);
-    let refusal = a.refusal;
-    let decoded = a.state;
-    let decoded_control = a.control;
-    keep_state(refusal, decoded, words, halves);
-    keep_lags(refusal, decoded_control, frame);
-    keep_taps(refusal, decoded_control, coefs);
-    refusal
+    let answer = silk_decode_core(s, q, c, rows, pulses, output);
+    // Not `?`, which copies the answer.
+    match &answer {
+        Ok(a) => {
+            put_state(&a.state, words, halves);
+            put_lags(&a.control, frame);
+            put_taps(&a.control, coefs);
+            Ok(())
+        }
+        Err(refusal) => Err(*refusal),
+    }
 }
 
-pub fn plc_received(words: &mut [i32], halves: &mut [i16], frame: &[i32], coefs: &[i16]) -> Refusal
+#[tactic(auto, using(layout::proofs::Slices::call_long))]
+pub fn plc_received(
+    words: &mut [i32],
+    halves: &mut [i16],
+    frame: &[i32],
+    coefs: &[i16],
+) -> Result<(), Refusal>
     requires { short_call (length words.old) (length halves.old) (length frame.now) (length coefs.now) ≡ false }
-    ensures { record { refusal = result; after = slices words.new halves.new frame.now coefs.now [] [] }
+    ensures { record { judged = result; after = slices words.new halves.new frame.now coefs.now [] [] }
         ≡ plc_received_on (slices words.old halves.old frame.now coefs.now [] []) }
 {
     let s = state_in(words, halves);
     let q = params_in(frame);
     let c = control_in(frame, coefs);
     let rows = rows_in(coefs);
-    let a = silk_plc_received(s, q, c, rows);
-    let refusal = a.refusal;
-    let updated = a.state;
-    keep_state(refusal, updated, words, halves);
-    refusal
+    let answer = silk_plc_received(s, q, c, rows);
+    // Not `?`, which copies the state.
+    match &answer {
+        Ok(updated) => {
+            put_state(updated, words, halves);
+            Ok(())
+        }
+        Err(refusal) => Err(*refusal),
+    }
 }
 
 pub fn plc_lost(
@@ -83,33 +101,46 @@ pub fn plc_lost(
     halves: &mut [i16],
     frame: &mut [i32],
     output: &mut [i16],
-) -> Refusal
+) -> Result<(), Refusal>
     requires { short_frame (length words.old) (length halves.old) (length frame.old) ≡ false }
-    ensures { record { refusal = result; after = slices words.new halves.new frame.new [] [] output.new }
+    ensures { record { judged = result; after = slices words.new halves.new frame.new [] [] output.new }
         ≡ plc_lost_on (slices words.old halves.old frame.old [] [] output.old) }
 {
     let s = state_in(words, halves);
     let c = tapless(frame);
-    let a = silk_plc_lost(s, c, output);
-    let refusal = a.refusal;
-    let concealed = a.state;
-    let concealed_control = a.control;
-    keep_state(refusal, concealed, words, halves);
-    keep_lags(refusal, concealed_control, frame);
-    refusal
+    let answer = silk_plc_lost(s, c, output);
+    // Not `?`, which copies the answer.
+    match &answer {
+        Ok(concealed) => {
+            put_state(&concealed.state, words, halves);
+            put_lags(&concealed.control, frame);
+            Ok(())
+        }
+        Err(refusal) => Err(*refusal),
+    }
 }
 
-pub fn glue(words: &mut [i32], halves: &mut [i16], buffer: &mut [i16], n: usize) -> Refusal
+#[tactic(auto, using(layout::proofs::Slices::state_long))]
+pub fn glue(
+    words: &mut [i32],
+    halves: &mut [i16],
+    buffer: &mut [i16],
+    n: usize,
+) -> Result<(), Refusal>
     requires { short_state (length words.old) (length halves.old) ≡ false }
-    ensures { record { refusal = result; after = slices words.new halves.new [] [] [] buffer.new }
+    ensures { record { judged = result; after = slices words.new halves.new [] [] [] buffer.new }
         ≡ glue_on n (slices words.old halves.old [] [] [] buffer.old) }
 {
     let s = state_in(words, halves);
-    let a = silk_plc_glue_frames(s, buffer, n);
-    let refusal = a.refusal;
-    let glued = a.state;
-    keep_state(refusal, glued, words, halves);
-    refusal
+    let answer = silk_plc_glue_frames(s, buffer, n);
+    // Not `?`, which copies the state.
+    match &answer {
+        Ok(glued) => {
+            put_state(glued, words, halves);
+            Ok(())
+        }
+        Err(refusal) => Err(*refusal),
+    }
 }
 
 pub fn noise(
@@ -118,16 +149,20 @@ pub fn noise(
     frame: &[i32],
     buffer: &mut [i16],
     n: usize,
-) -> Refusal
+) -> Result<(), Refusal>
     requires { short_frame (length words.old) (length halves.old) (length frame.now) ≡ false }
-    ensures { record { refusal = result; after = slices words.new halves.new frame.now [] [] buffer.new }
+    ensures { record { judged = result; after = slices words.new halves.new frame.now [] [] buffer.new }
         ≡ noise_on n (slices words.old halves.old frame.now [] [] buffer.old) }
 {
     let s = state_in(words, halves);
     let c = tapless(frame);
-    let a = silk_cng(s, c, buffer, n);
-    let refusal = a.refusal;
-    let noised = a.state;
-    keep_state(refusal, noised, words, halves);
-    refusal
+    let answer = silk_cng(s, c, buffer, n);
+    // Not `?`, which copies the state.
+    match &answer {
+        Ok(noised) => {
+            put_state(noised, words, halves);
+            Ok(())
+        }
+        Err(refusal) => Err(*refusal),
+    }
 }

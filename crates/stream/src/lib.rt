@@ -8,32 +8,14 @@ ghost use Rattle.le.specs.Bytes.{bytes_of, packed};
 ghost use Rattle.stream.specs.Wav.{wav_header};
 ghost use Rattle.stream.specs.Header.{is_stream, samples_of, opened_of};
 
-use decoder::both;
-use le::{put16s, signed_byte, stands_at, u16_at, u32_at};
-
-fn bytes4(n: u64) -> [u8; 4]
-    ensures { result ≡ bytes_of 4 (pos n) }
-{
-    [
-        (n % 256) as u8,
-        (n / 256 % 256) as u8,
-        (n / 256 / 256 % 256) as u8,
-        (n / 256 / 256 / 256 % 256) as u8,
-    ]
-}
-
-pub fn no_bytes() -> [u8; 640]
-    ensures { result ≡ replicate 640 0 }
-{
-    [0; 640]
-}
+use le::{Word, put_bytes, put_words, signed_byte, stands_at};
 
 // A frame's samples, two bytes each.
 pub fn samples_bytes(samples: &[i16; 320]) -> [u8; 640]
     ensures { result ≡ packed w16 samples.now 320 }
 {
-    let mut b = no_bytes();
-    put16s(&mut b, 0, samples);
+    let mut b = [0; 640];
+    put_words(&mut b, 0, samples);
     b
 }
 
@@ -46,11 +28,8 @@ fn put4(h: [u8; 44], at: usize, n: u64) -> [u8; 44]
     ensures { result ≡ take at h ++ bytes_of 4 (pos n) ++ drop (at + 4) h }
 {
     let mut new = h;
-    let b = bytes4(n);
-    new[at] = b[0];
-    new[at + 1] = b[1];
-    new[at + 2] = b[2];
-    new[at + 3] = b[3];
+    let bytes = n.to_le_bytes();
+    put_bytes(&mut new, at, &bytes[..4]);
     new
 }
 
@@ -71,11 +50,10 @@ pub struct Head {
     pub samples: u32,
 }
 
-// A stream, or why a file is not played: it is cut within the header, has another format, has no rate or count of subframes
+// Why a file is not played: it is cut within the header, has another format, has no rate or count of subframes
 // of the decoder, or is too long for a WAV file.
 #[derive(Clone, Copy)]
-pub enum Opened {
-    Stream(Head),
+pub enum Unplayed {
     Cut,
     Foreign,
     Rate(u8),
@@ -88,43 +66,42 @@ const MARK: [u8; 8] = *b"SILKVEC1";
 fn is_stream(header: &[u8; 16]) -> bool
     ensures { result ≡ is_stream header.now }
 {
-    let mark = MARK;
-    both(stands_at(header, 0, &mark), u16_at(header, 10) == 0)
+    stands_at(header, 0, &MARK) & (u16::at(header, 10) == 0)
 }
 
 fn samples_of(header: &[u8; 16]) -> u64
     ensures { (result ≡ samples_of header.now) × (result < 2 ^ 62) }
 {
     let n = shape::frame_length(signed_byte(header[8]), signed_byte(header[9]));
-    (u32_at(header, 12) as u64) * (n as u64)
+    (u32::at(header, 12) as u64) * (n as u64)
 }
 
 // The header of a file whose first bytes, got of them, were read.
-pub fn read_header(header: &[u8; 16], got: usize) -> Opened
+pub fn read_header(header: &[u8; 16], got: usize) -> Result<Head, Unplayed>
     ensures { result ≡ opened_of header.now got }
 {
     if got < 16 {
-        return Opened::Cut;
+        return Err(Unplayed::Cut);
     }
     if !is_stream(header) {
-        return Opened::Foreign;
+        return Err(Unplayed::Foreign);
     }
     let rate = header[8];
     let subframes = header[9];
     if !shape::is_rate(signed_byte(rate)) {
-        return Opened::Rate(rate);
+        return Err(Unplayed::Rate(rate));
     }
     if !shape::is_count(signed_byte(subframes)) {
-        return Opened::Subframes(subframes);
+        return Err(Unplayed::Subframes(subframes));
     }
     let samples = samples_of(header);
     if 36 + 2 * samples >= 4294967296 {
-        return Opened::Long;
+        return Err(Unplayed::Long);
     }
-    Opened::Stream(Head {
+    Ok(Head {
         rate,
         subframes,
-        records: u32_at(header, 12),
+        records: u32::at(header, 12),
         samples: samples as u32,
     })
 }

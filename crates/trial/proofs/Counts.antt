@@ -11,11 +11,13 @@ use lib.IntN.{ℤ, pos, nat_abs, ◌+ℤ◌}
 use lib.ListN.{length, replicate, length-replicate}
 use lib.Signed.{le_z, lt_z}
 use Rattle.edition.specs.Edition.{newer, is_edition}
-use Rattle.refusal.specs.Refusals.{refusal_number}
-use Rattle.refusal.specs.declared.Refusal.TheVariants.{Nothing}
-use Rattle.refusal.proofs.Clear.{clear}
+use Rattle.std.specs.Prelude.{Result, Ok}
+use Rattle.refusal.specs.Refusals.{Judged, code_of, if_accepted}
+use Rattle.refusal.specs.declared.Refusal.{Refusal}
+use Rattle.refusal.proofs.Clear.{accepted, clear}
 use Rattle.shape.specs.Shape.{Shape, shape, is_rate, is_count, frame_length}
 use Rattle.shape.proofs.Shapes.{frame_le}
+use Rattle.decoder.specs.Answer.{answer}
 use Rattle.decoder.specs.Reshape.{reshaped_by, reshaped}
 use Rattle.decoder.specs.Settings.{is_squelch, settings_fit, squelched}
 use Rattle.decoder.specs.SetUp.{silk_default, state_from, set_up_with}
@@ -26,14 +28,14 @@ use Rattle.decoder.specs.declared.Params.{Params}
 use Rattle.decoder.specs.declared.SilkDecoderControl.{SilkDecoderControl}
 use Rattle.decoder.specs.declared.SilkDecoderState.{SilkDecoderState}
 use Rattle.decoder.proofs.Between.{passes, between}
-use Rattle.decoder.proofs.SetUps.{set_up_accepts, set_up_state}
+use Rattle.decoder.proofs.SetUps.{set_up_state}
 use Rattle.plc.specs.Update.{plc_update}
 use Rattle.plc.specs.Conceal.{plc_conceal}
 use Rattle.glue.specs.Glue.{glue_frames}
 use Rattle.decode_core.specs.Core.{decode_core}
 use Rattle.decode_frame.specs.WholeFrame.{lined, remembered, resumed, lag_kept, received, lost, muted, whole_frame}
 use Rattle.decode_frame.specs.Call.{Call, shape_at, state_at}
-use Rattle.decode_frame.specs.Answer.{frame_refusal, frame_answer}
+use Rattle.decode_frame.specs.Answer.{frame_refusal, frame_answer, frame_outcome, state_left}
 use Rattle.decode_frame.proofs.Finishing.{finished-keeps}
 use Rattle.lists.specs.Lists.{state_after, Losses, no_losses, count_after, places_from, places}
 use Rattle.lists.specs.Claims.{Every, none, then, Played}
@@ -47,7 +49,7 @@ use Rattle.load_lists.proofs.Sent.{any_losses_lem}
 use Rattle.listener.specs.declared.Link.{Link}
 use Rattle.listener.specs.Link.{good_at}
 use Rattle.listener.specs.Heard.{Heard, as_received, as_concealed, as_squelched, losses_at, silent, heard_by, count_to}
-use Rattle.trial.specs.Calls.{is_heard, count_of, followed_by, heard_of}
+use Rattle.trial.specs.Calls.{is_heard, count_of, places_on, followed_by, heard_of}
 use Rattle.trial.specs.Trial.{trial_refusal}
 use Rattle.trial.specs.Claims.{AllPlayed}
 
@@ -81,16 +83,16 @@ left s x f q n h =
       row = row-after (shape_at x) (state_at s x) x.control x.rows x.lines x.pulses f n h.row;
     }
 
-played_state : (s : SilkDecoderState) (x : Call) → refusal_number (frame_refusal s x) ≡ 0 → state_after s x ≡ new_state s x.frame x
+played_state : (s : SilkDecoderState) (x : Call) → code_of (frame_refusal s x) ≡ 0 → state_after s x ≡ new_state s x.frame x
 unfolding state_after frame_answer
-played_state s x e = ap (λ (b : Bool). cond b (new_state s x.frame x) s) (eq-eqb _ 0 e)
+played_state s x e = ap (λ (j : Judged). state_left s (answer j (frame_outcome s x))) (accepted _ e)
 
 row_by : (good : Bool) (f : Params) (n : ℕ) → row_after (cond good (Received f) Lost) n ≡ cond good 0 (suc n)
 unfolding row_after
 row_by true f n = refl
 row_by false f n = refl
 
-holds_after : (s : SilkDecoderState) (x : Call) (good : Bool) (f : Params) (q n : ℕ) → x.frame ≡ cond good (Received f) Lost → refusal_number (frame_refusal s x) ≡ 0
+holds_after : (s : SilkDecoderState) (x : Call) (good : Bool) (f : Params) (q n : ℕ) → x.frame ≡ cond good (Received f) Lost → code_of (frame_refusal s x) ≡ 0
     → Holds q n s
     → Holds q (cond good 0 (suc n)) (state_after s x)
 holds_after s x good f q n e p h =
@@ -132,7 +134,7 @@ module _ (h : Heard) (khz nb seed : ℤ) (q : ℕ) (k : Link) (x : ℤ) (o : Lis
       let f = params_of (before seed i) in
       let good = good_at k x i in
       let call = call_of khz nb seed (before seed i) good o in
-      let a = eq-eqb (refusal_number (frame_refusal s call)) 0 p in
+      let a = eq-eqb (code_of (frame_refusal s call)) 0 p in
       let b = ap (λ (g : Frame). is_heard h g s) (sent-at i) ∙ heard-is h good f s q n e in
       let d = counts m (suc i) (cond good 0 (suc n)) (state_after s call) (count_after s call l) ps (holds_after s call good f q n (sent-at i) p e) in
       λ j. cond (a j && b j) 1 0 + d j
@@ -161,10 +163,10 @@ all_of h q k x n =
     a ∙ heard_to h q k x n 0 ∙ ap (count_to h q k x) b
 
 -- ---- a trial that is not refused
-pub accepted : (khz nb q : ℤ) (n : ℕ) → refusal_number (trial_refusal khz nb q n) ≡ 0 → (is_rate khz ≡ true) × (is_count nb ≡ true) × (n ≤ 2147483647) × (is_squelch q ≡ true)
+pub in_ranges : (khz nb q : ℤ) (n : ℕ) → code_of (trial_refusal khz nb q n) ≡ 0 → (is_rate khz ≡ true) × (is_count nb ≡ true) × (n ≤ 2147483647) × (is_squelch q ≡ true)
 unfolding trial_refusal
-accepted khz nb q n e =
-    let h = (clear _ Nothing refl e).0 in
+in_ranges khz nb q n e =
+    let h = clear _ e in
     (passes (is_rate khz) h.0, passes (is_count nb) h.1.0, ltb-false 2147483647 n h.1.1.0, passes (is_squelch q) h.1.1.1.0)
 
 pub natural_squelch : (q : ℤ) → is_squelch q ≡ true → (q ≡ pos (nat_abs q)) × (nat_abs q ≤ 10000)
@@ -180,14 +182,13 @@ fit-settings : (q : ℤ) → is_squelch q ≡ true → settings_fit (settings q)
 unfolding settings_fit is_edition
 fit-settings q s = rw s refl
 
-set_up-holds : (khz nb q : ℤ) → is_rate khz ≡ true → is_count nb ≡ true → is_squelch q ≡ true → Holds (nat_abs q) 0 (set_up_with khz nb (settings q)).state
+-- the state that set-up gives for that squelch
+abbrev fresh : ℤ → ℤ → ℤ → SilkDecoderState
+fresh khz nb q = state_from khz nb (settings q)
+
+set_up-holds : (khz nb q : ℤ) → is_squelch q ≡ true → Holds (nat_abs q) 0 (fresh khz nb q)
 unfolding state_from silk_default
-set_up-holds khz nb q r n s =
-    let e = set_up_state khz nb (settings q) r n (fit-settings q s) in
-    record {
-      squelch = ap (λ (t : SilkDecoderState). t.settings.squelch) e ∙ (natural_squelch q s).0;
-      row = ap (λ (t : SilkDecoderState). t.loss_cnt) e;
-    }
+set_up-holds khz nb q s = record { squelch = (natural_squelch q s).0; row = refl }
 
 every_buffer : (n k : ℕ) (o : List ℤ) → k ≤ length o → Every (λ (b : List ℤ). k ≤ length b) (replicate n o)
 every_buffer zero k o h = none
@@ -199,21 +200,26 @@ lent khz nb n h =
     record { few = rw (length-replicate n (replicate 320 (pos 0))) h; room = every_buffer n (frame_length (shape khz nb)) (replicate 320 (pos 0)) room }
 
 -- of its calls, by the refusal's number
-module _ (khz nb seed q : ℤ) (n : ℕ) (k : Link) (x : ℤ) (e : refusal_number (trial_refusal khz nb q n) ≡ 0) where
-  every-played : Every Played (places (set_up_with khz nb (settings q)).state (followed_by khz nb seed q k n x))
+module _ (khz nb seed q : ℤ) (n : ℕ) (k : Link) (x : ℤ) (e : code_of (trial_refusal khz nb q n) ≡ 0) where
+  set_up-fresh : set_up_with khz nb (settings q) ≡ Ok (fresh khz nb q)
+  set_up-fresh =
+      let a = in_ranges khz nb q n e in
+      set_up_state khz nb (settings q) a.0 a.1 (fit-settings q a.3)
+
+  every-played : Every Played (places (fresh khz nb q) (followed_by khz nb seed q k n x))
   unfolding followed_by drawn
   every-played =
-      let a = accepted khz nb q n e in
-      any_losses_lem (good_at k x) khz nb (settings q) seed 0 0 (replicate n (replicate 320 (pos 0)))
-      (set_up_accepts khz nb (settings q) a.0 a.1 (fit-settings q a.3))
-      (lent khz nb n a.2)
+      any_losses_lem (good_at k x) khz nb (settings q) (fresh khz nb q) seed 0 0 (replicate n (replicate 320 (pos 0))) set_up-fresh
+      (lent khz nb n (in_ranges khz nb q n e).2)
 
   pub heard_by_link : (h : Heard) → heard_of khz nb seed q k n h x ≡ count_to h (nat_abs q) k x n
   unfolding heard_of followed_by
   heard_by_link h =
-      let a = accepted khz nb q n e in
-      counts h khz nb seed (nat_abs q) k x (replicate 320 (pos 0)) n 0 0 (set_up_with khz nb (settings q)).state no_losses every-played (set_up-holds khz nb q a.0 a.1 a.3)
+      ap (λ (r : Result SilkDecoderState Refusal). count_of h (places_on r (followed_by khz nb seed q k n x))) set_up-fresh
+      ∙ counts h khz nb seed (nat_abs q) k x (replicate 320 (pos 0)) n 0 0 (fresh khz nb q) no_losses every-played (set_up-holds khz nb q (in_ranges khz nb q n e).3)
       ∙ all_of h (nat_abs q) k x n
 
 pub all_played : AllPlayed
-all_played khz nb seed q n k x e = every-played khz nb seed q n k x (ap refusal_number e)
+all_played khz nb seed q n k x e =
+    let z = ap code_of e in
+    (fresh khz nb q, set_up-fresh khz nb seed q n k x z, every-played khz nb seed q n k x z)

@@ -1,19 +1,19 @@
 -- The three counts of a listener add up to the frames sent.
-use Prim.Native.Nat.{ℕ, zero, suc, ◌+◌, ◌<◌}
-use mathlib.Core.Path.{◌≡◌, refl, ap, ◌∙◌}
+use Prim.Native.Nat.{ℕ, zero, suc, ◌+◌}
+use mathlib.Core.Path.{◌≡◌, refl, sym, ap, ◌∙◌}
 use mathlib.Core.Bool.{Bool, true, false, cond, not}
 use mathlib.Core.List.{List, [], ◌∷◌, map}
-use native.Mathlib.Nat.{not-suc-le-zero}
 use native.Mathlib.Omega.{arith}
+use Rattle.std.proofs.lemmas.List.{get_or-map}
 use lib.IntN.{ℤ, pos, nat_abs}
-use lib.ListN.{length, get_or, replicate}
-use Rattle.refusal.specs.Refusals.{refusal_number, if_accepted}
-use Rattle.refusal.specs.declared.Refusal.{Refusal}
+use lib.ListN.{get_or}
+use Rattle.refusal.proofs.Clear.{answered_is}
 use Rattle.listener.specs.declared.Link.{Link}
 use Rattle.listener.specs.Link.{good_at}
-use Rattle.listener.specs.Heard.{Heard, as_received, as_concealed, as_squelched, losses_at, silent, heard_by, count_to}
+use Rattle.listener.specs.declared.Counts.{Counts}
+use Rattle.listener.specs.Heard.{as_received, as_concealed, as_squelched, losses_at, silent, heard_by, count_to, each}
 use Rattle.trial.specs.Calls.{heard_of}
-use Rattle.trial.specs.Trial.{trial_refusal, reported, trial_of}
+use Rattle.trial.specs.Trial.{trial_refusal, trial_of}
 use Rattle.trial.specs.Claims.{AddsUp}
 use Rattle.trial.proofs.Counts.{heard_by_link}
 
@@ -34,21 +34,19 @@ sum_to q k x (suc n) =
     let b = one_of_three q (good_at k x n) (losses_at k x n) in
     omega (arith, a, b)
 
-get_or-map : (f : ℤ → ℕ) (xs : List ℤ) (i : ℕ) → i < length xs → get_or (map f xs) i 0 ≡ f (get_or xs i (pos 0))
-get_or-map f [] i h = absurd (not-suc-le-zero h)
-get_or-map f (x ∷ xs) zero h = refl
-get_or-map f (x ∷ xs) (suc i) h = get_or-map f xs i (omega arith)
-
-pub map_cong : (f g : ℤ → ℕ) (xs : List ℤ) → ((x : ℤ) → f x ≡ g x) → map f xs ≡ map g xs
+pub map_cong : (f g : ℤ → Counts) (xs : List ℤ) → ((x : ℤ) → f x ≡ g x) → map f xs ≡ map g xs
 map_cong f g [] h = refl
 map_cong f g (x ∷ xs) h = λ i. h x i ∷ map_cong f g xs h i
 
 pub adds_up : AddsUp
-unfolding trial_of reported
-adds_up khz nb seed q n k seeds i e l =
+unfolding trial_of
+adds_up khz nb seed q n k seeds counts i e l =
     let x = get_or seeds i (pos 0) in
-    let row : (h : Heard) → get_or (if_accepted (trial_refusal khz nb q n) (map (heard_of khz nb seed q k n h) seeds) (replicate 16 0)) i 0 ≡ count_to h (nat_abs q) k x n =
-    λ h. ap (λ (r : Refusal). get_or (if_accepted r (map (heard_of khz nb seed q k n h) seeds) (replicate 16 0)) i 0) e
-    ∙ get_or-map (heard_of khz nb seed q k n h) seeds i l
-    ∙ heard_by_link khz nb seed q n k x (ap refusal_number e) h in
-    (λ j. row as_received j + row as_concealed j + row as_squelched j) ∙ sum_to (nat_abs q) k x n
+    let none : Counts = each (λ h. 0) in
+    let heard : ℤ → Counts = λ y. each (λ h. heard_of khz nb seed q k n h y) in
+    let a = answered_is (trial_refusal khz nb q n) (map heard seeds) counts e in
+    let at = ap (λ (cs : List Counts). get_or cs i none) (sym a.1) ∙ get_or-map heard seeds i (pos 0) none l in
+    let row = heard_by_link khz nb seed q n k x a.0 in
+    ap (λ (c : Counts). c.received + c.concealed + c.squelched) at
+    ∙ (λ j. row as_received j + row as_concealed j + row as_squelched j)
+    ∙ sum_to (nat_abs q) k x n

@@ -1,7 +1,8 @@
 -- Document 02, Note 13: the calls of a post that follows a load behind a link, and what becomes of their frames.
-use Rattle.std.specs.Prelude.{ℕ, ◌+◌, Bool, true, false, cond, not, ◌&&◌, List, [], ◌∷◌, eqb, ℤ, pos, replicate}
+use Rattle.std.specs.Prelude.{Ok, Err, Result, ℕ, ◌+◌, Bool, true, false, cond, not, ◌&&◌, List, [], ◌∷◌, eqb, ℤ, pos, replicate}
 use Rattle.edition.specs.Edition.{newer}
-use Rattle.refusal.specs.Refusals.{refusal_number}
+use Rattle.refusal.specs.Refusals.{code_of}
+use Rattle.refusal.specs.declared.Refusal.{Refusal}
 use Rattle.decoder.specs.Settings.{squelched}
 use Rattle.decoder.specs.SetUp.{set_up_with}
 use Rattle.decoder.specs.declared.Frame.{Frame}
@@ -28,7 +29,12 @@ is_heard as_squelched Lost s = squelched s
 unfoldable pub count_of : Heard → List Place → ℕ
 count_of h [] = 0
 count_of h (t ∷ ts) =
-    cond (eqb (refusal_number (frame_refusal t.state t.call)) 0 && is_heard h t.call.frame t.state) 1 0 + count_of h ts
+    cond (eqb (code_of (frame_refusal t.state t.call)) 0 && is_heard h t.call.frame t.state) 1 0 + count_of h ts
+
+-- the calls of a list on a post that was set up; on none, no calls
+abbrev pub places_on : Result SilkDecoderState Refusal → List Call → List Place
+places_on (Ok s) xs = places s xs
+places_on (Err r) xs = []
 
 -- a load's rate, count of subframes and seed, a squelch, a link and a count of frames
 module _ (khz nb seed q : ℤ) (k : Link) (n : ℕ) where
@@ -39,4 +45,4 @@ module _ (khz nb seed q : ℤ) (k : Link) (n : ℕ) where
   -- the calls on a post that was set up for the load's shape, with that squelch
   unfoldable pub heard_of : Heard → ℤ → ℕ
   heard_of h listener =
-      count_of h (places (set_up_with khz nb (record { squelch = q; edition = newer })).state (followed_by listener))
+      count_of h (places_on (set_up_with khz nb (record { squelch = q; edition = newer })) (followed_by listener))

@@ -7,32 +7,20 @@ ghost use Rattle.trial.specs.Trial.{trial_refusal, trial_of};
 ghost use Rattle.trial.specs.Claims.{AddsUp, AllPlayed};
 
 use decoder::within;
-use listener::{Link, no_counts, sixteen};
-use refusal::Refusal;
+use listener::{Counts, Link, sixteen};
+use refusal::{Refusal, refuse_if};
 
-// How many frames each listener received, and how many of those that it lost were concealed and squelched.
-#[derive(Clone, Copy)]
-pub struct Trial {
-    pub refusal: Refusal,
-    pub received: [u32; 16],
-    pub concealed: [u32; 16],
-    pub squelched: [u32; 16],
-}
-
-pub fn trial_refusal(rate: i32, subframes: i32, squelch: i32, frames: u32) -> Refusal
+#[tactic(auto, unfolding(crate::specs::Trial::trial_refusal, refusal::specs::First::first_of, decoder::specs::Settings::is_squelch))]
+pub fn trial_refusal(rate: i32, subframes: i32, squelch: i32, frames: u32) -> Result<(), Refusal>
     ensures { result ≡ trial_refusal rate subframes squelch frames }
 {
-    let range = refusal::first(
-        !within(0, 10000, squelch),
-        Refusal::Squelch,
-        Refusal::Nothing,
-    );
-    let length = refusal::first(frames > 2147483647, Refusal::Length, range);
-    let size = refusal::first(!shape::is_count(subframes), Refusal::Size, length);
-    refusal::first(!shape::is_rate(rate), Refusal::Rate, size)
+    refuse_if(!shape::is_rate(rate), Refusal::Rate)?;
+    refuse_if(!shape::is_count(subframes), Refusal::Size)?;
+    refuse_if(frames > 2147483647, Refusal::Length)?;
+    refuse_if(!within(0, 10000, squelch), Refusal::Squelch)
 }
 
-// The frames of a load are not decoded: what becomes of each follows from the links alone.
+// Each listener's counts. The frames of a load are not decoded: what becomes of each follows from the links alone.
 pub fn run(
     rate: i32,
     subframes: i32,
@@ -41,29 +29,11 @@ pub fn run(
     frames: u32,
     link: Link,
     seeds: [i32; 16],
-) -> Trial
+) -> Result<[Counts; 16], Refusal>
     ensures { result ≡ trial_of rate subframes seed squelch frames link seeds }
 {
-    let refusal = trial_refusal(rate, subframes, squelch, frames);
-    if refusal::number(refusal) != 0 {
-        let none = no_counts();
-        return Trial {
-            refusal,
-            received: none,
-            concealed: none,
-            squelched: none,
-        };
-    }
-    let heard = sixteen(seeds, squelch as u32, link, frames);
-    let received = heard.received;
-    let concealed = heard.concealed;
-    let squelched = heard.squelched;
-    Trial {
-        refusal,
-        received,
-        concealed,
-        squelched,
-    }
+    trial_refusal(rate, subframes, squelch, frames)?;
+    Ok(sixteen(seeds, squelch as u32, link, frames))
 }
 
 // The three counts of each listener add up to the frames sent, and every frame is played: claims, with no code.

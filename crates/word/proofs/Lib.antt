@@ -7,4 +7,5 @@ pub mod Order
 pub mod Parts
 pub mod Sizes
 pub mod Lists
+pub mod Names
 pub mod Rows

@@ -59,12 +59,6 @@ twice : (w w' : Width) → T (ltb (hbits w) (hbits w')) → 2 ^ hbits w + 2 ^ hb
 twice w w' t =
     omega (arith, pow_mono {i = suc (hbits w)} {j = hbits w'} (ltb→lt (hbits w) (hbits w') t), pow-suc 2 (hbits w))
 
-pub add-fits : (w w' : Width) {a b : ℤ} → T (ltb (hbits w) (hbits w')) → SFits w a → SFits w b → SFits w' (a +ℤ b)
-add-fits w w' {a} {b} t h k =
-    let f = h.sfits in
-    let g = k.sfits in
-    record { sfits = omega (arith, mag_add a b, twice w w' t) }
-
 pub sub-fits : (w w' : Width) {a b : ℤ} → T (ltb (hbits w) (hbits w')) → SFits w a → SFits w b → SFits w' (a -ℤ b)
 sub-fits w w' {a} {b} t h k =
     let f = h.sfits in

@@ -15,9 +15,8 @@ use mir.Syntax.{Width, w32}
 use mir.Val.{bits, to_z, of_z, SFits, hbits}
 use mir.ValLaws.{half_full}
 use mir.Facts.{to_z_pos, to_z-of_z, sfits_to_z, sfits_widen}
-use Rattle.word.specs.Int.{eq_ℤ, mod_ℤ, floor_div, wrap}
+use Rattle.word.specs.Int.{eq_ℤ, mod_ℤ, wrap}
 use Rattle.word.proofs.Mod.{mod_ℤ_lt, mod_add_l, mod_mul_l}
-use Rattle.word.proofs.Range.{floor_div-fits}
 use Rattle.word.proofs.Order.{eq_ℤ_refl, eq_ℤ_ne}
 
 -- ---- a value read back from its bits
@@ -45,13 +44,6 @@ eq_words w a b h k = go (eqb (of_z w a) (of_z w b)) refl
         let p : a ≡ b = sym (to_z-of_z h) ∙ ap (to_z w) (eqb-true (of_z w a) (of_z w b) e) ∙ to_z-of_z k in
         rw p (sym (eq_ℤ_refl b))
     go false e = sym (eq_ℤ_ne a b (λ p. eqb-false (of_z w a) (of_z w b) e (ap (of_z w) p)))
-
--- a number in a wider word
-pub wide_back : (w w' : Width) {z : ℤ} → T (leb (hbits w) (hbits w')) → SFits w z → to_z w' (of_z w' (to_z w (of_z w z))) ≡ z
-wide_back w w' t h = back (sfits_widen t h) (to_z-of_z h)
-
-pub wide_fits : (w w' : Width) {z : ℤ} → T (leb (hbits w) (hbits w')) → SFits w z → SFits w' (to_z w (of_z w z))
-wide_fits w w' t h = back_fits h (sfits_widen t h) refl
 
 -- ---- the low bits of a word
 -- the complement of n in j + k bits, in the low k of them
@@ -199,15 +191,7 @@ wrap_sub_r w a b =
     sym (wrap_add_r w a (neg_ℤ (wrap w b))) ∙ ap (λ (z : ℤ). wrap w (a +ℤ z)) (wrap_neg w b) ∙ wrap_add_r w a (neg_ℤ b)
 
 -- ---- shifts
-shr_is : (z : ℤ) (m : ℕ) → shr_z z m ≡ floor_div z m
-shr_is (pos n) m = refl
-shr_is (negsuc n) m = refl
-
--- what a shift to the right leaves in a word
-pub shr_back : {w : Width} (z : ℤ) (m : ℕ) → SFits w z → to_z w (of_z w (shr_z (to_z w (of_z w z)) m)) ≡ floor_div z m
-shr_back z m h = rw (to_z-of_z h, shr_is z m) (to_z-of_z (floor_div-fits z m h))
-
--- and one to the left
+-- what a shift to the left leaves in a word
 pub shl_back : (w : Width) (z : ℤ) (k : ℕ) → SFits w z → to_z w ((of_z w z * k) % 2 ^ bits w) ≡ wrap w (z *ℤ pos k)
 unfolding wrap
 shl_back w z k h =
@@ -222,11 +206,3 @@ pub low_word : (w w' : Width) (j k : ℕ) (z : ℤ) → bits w ≡ j + k → T (
 low_word w w' j k z e t h =
     rw (amount w j k z e h)
     (to_z_pos w' {n = mod_ℤ z (2 ^ k)} (below w' k z t))
-
--- as the amount of a shift in a word w'
-module _ (w w' : Width) (j k : ℕ) (z : ℤ) (e : bits w ≡ j + k) (t : T (leb k (hbits w))) (t' : T (leb k (hbits w'))) (h : SFits w z) where
-  pub low_in : of_z w' (to_z w (bit_and (of_z w z) (2 ^ k - 1))) ≡ mod_ℤ z (2 ^ k)
-  low_in = ap (of_z w') (low_word w w j k z e t h)
-
-  pub low_in_fits : SFits w' (to_z w (bit_and (of_z w z) (2 ^ k - 1)))
-  low_in_fits = rw (low_word w w j k z e t h) (record { sfits = below w' k z t' })

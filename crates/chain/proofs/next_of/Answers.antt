@@ -3,4 +3,4 @@ use Rattle.chain.proofs.next_of.Goals as goal
 
 pub returns : goal.returns
 unfolding next_of
-returns c = rw c.u16_at.ensures.0
+returns c = rw c.at.ensures

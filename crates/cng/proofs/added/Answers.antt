@@ -16,7 +16,7 @@ use Rattle.cng.proofs.added.Goals as goal
 
 pub loop-i-init : goal.loop-i-init
 unfolding tabulate
-loop-i-init c = (search rules, search rules, search rules, refl)
+loop-i-init c = (search rules, search rules, refl)
 
 pub loop-i-preserved : goal.loop-i-preserved
 loop-i-preserved c =
@@ -26,14 +26,13 @@ loop-i-preserved c =
     let n : i < length frame = search rules in (
       search rules,
       search rules,
-      search rules,
-      turn frame _ i c.loop-i.frame _ n c.loop-i.invariant.3
+      turn frame _ i c.loop-i.frame _ n c.loop-i.invariant.2
           (rw (
             got w16 c.silk_add_sat16.type_inv c.silk_add_sat16.ensures,
             kept w16 (get_or c.loop-i.frame i (pos 0)) c.silk_add_sat16-arg-1.given,
             got w16 c.played_sample.type_inv c.played_sample.ensures,
             kept w32 (get_or a.signal.now i (pos 0)) c.played_sample-arg-1.given,
-            c.loop-i.invariant.3,
+            c.loop-i.invariant.2,
             rest_at (tabulate i _) frame i (length-tabulate i _) n,
           )),
     )
@@ -43,7 +42,7 @@ unfolding played
 returns c =
     let frame = c.args.frame.now in
     rw (
-      c.loop-i.invariant.3,
+      c.loop-i.invariant.2,
       le_antisymm c.loop-i.invariant.0 c.loop-i-test.false,
       got w32 c.shr32-gain_q10.type_inv c.shr32-gain_q10.ensures,
       to_z-of_z c.ranges.gain,

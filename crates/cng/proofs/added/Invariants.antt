@@ -1,4 +1,4 @@
-use Prim.Native.Nat.{ℕ, ◌-◌, ◌≤◌}
+use Prim.Native.Nat.{ℕ, ◌≤◌}
 use mathlib.Core.Path.{◌≡◌}
 use mathlib.Core.List.{List, ◌++◌}
 use lib.IntN.{ℤ, pos, ◌+ℤ◌}
@@ -13,8 +13,5 @@ sample frame signal gain i = sat16 (get_or frame i (pos 0) +ℤ played_q10 gain 
 
 abbrev pub invariant-loop-i : goal.invariant-loop-i
 invariant-loop-i l =
-    (l.i ≤ l.i-end) × (l.i-end ≡ length l.initial.frame) × (length l.frame ≡ length l.initial.frame)
+    (l.i ≤ length l.initial.frame) × (length l.frame ≡ length l.initial.frame)
     × (l.frame ≡ tabulate l.i (sample l.initial.frame l.signal l.gain_q10) ++ drop l.i l.initial.frame)
-
-abbrev pub decreases-loop-i : goal.decreases-loop-i
-decreases-loop-i l = l.i-end - l.i

@@ -14,30 +14,19 @@ use Rattle.cng.specs.Noise.{cng_ready, heard_noise, sounding, sounded}
 use Rattle.cng.proofs.Cases.{received_is, lost-is}
 use Rattle.cng.proofs.comfort_noise.Goals as goal
 
-pub received-new-requires : goal.received-new-requires
-received-new-requires c =
-    let khz : to_z w32 (of_z w32 c.args.s.fs_khz) ≡ c.args.s.fs_khz = kept w32 _ c.struct_told-1.given.1.1.1.1.1.0.1 in
-    let count : to_z w32 (of_z w32 c.args.s.nb_subfr) ≡ c.args.s.nb_subfr = kept w32 _ c.struct_told-then-s-eq0-1.given.1.1.1.1.1.1.0.1 in
-    (rw khz c.requires.0, rw count c.requires.1)
-
 pub returns-then-s-eq0 : goal.returns-then-s-eq0
 returns-then-s-eq0 c =
     let khz : to_z w32 (of_z w32 c.args.s.fs_khz) ≡ c.args.s.fs_khz = kept w32 _ c.struct_told-1.given.1.1.1.1.1.0.1 in
-    let count : to_z w32 (of_z w32 c.args.s.nb_subfr) ≡ c.args.s.nb_subfr = kept w32 _ c.struct_told-then-s-eq0-1.given.1.1.1.1.1.1.0.1 in
+    let count : to_z w32 (of_z w32 c.args.s.nb_subfr) ≡ c.args.s.nb_subfr = kept w32 _ c.struct_told-1.given.1.1.1.1.1.1.0.1 in
     let a = c.args in
     let s = a.s in
     let p = shape_of s in
-    let z = is w32 s.loss_cnt 0 (lit< tt) (record { sfits = c.struct_told-2-1.given.1.1.1.1.1.1.1.1.1.1.1.1.1.1.0.1 }) c.if-s-eq0.true in
-    let e : c.received-new.result ≡ heard_noise p s.exc_q14 s.prev_nlsf_q15 a.gains.now s.prev_signal_type s.s_cng =
-    rw (c.received-new.ensures, khz, count, kept w32 s.prev_signal_type c.struct_told-then-s-eq0-2-1.given.1.1.1.1.1.1.1.1.1.1.1.1.1.1.1.0.1) in
+    let z = is w32 s.loss_cnt 0 (lit< tt) (record { sfits = c.struct_told-1.given.1.1.1.1.1.1.1.1.1.1.1.1.1.1.0.1 }) c.if-s-eq0.true in
+    let e : c.received-t.result ≡ heard_noise p s.exc_q14 s.prev_nlsf_q15 a.gains.now s.prev_signal_type s.s_cng =
+    rw (c.received-t.ensures, khz, count, kept w32 s.prev_signal_type c.struct_told-1.given.1.1.1.1.1.1.1.1.1.1.1.1.1.1.1.0.1) in
     let frame = a.frame.now in
-    let one : ◌≡◌ {A = Framed} (record { state = with_noise s c.received-new.result; frame = frame }) (record { state = with_noise s (heard_noise p s.exc_q14 s.prev_nlsf_q15 a.gains.now s.prev_signal_type s.s_cng); frame = frame }) = λ i. record { state = with_noise s (e i); frame = frame } in
+    let one : ◌≡◌ {A = Framed} (record { state = with_noise s c.received-t.result; frame = frame }) (record { state = with_noise s (heard_noise p s.exc_q14 s.prev_nlsf_q15 a.gains.now s.prev_signal_type s.s_cng); frame = frame }) = λ i. record { state = with_noise s (e i); frame = frame } in
     one ∙ sym (received_is p s a.gains.now (length frame) frame z)
-
-pub lost-new-requires : goal.lost-new-requires
-lost-new-requires c =
-    let khz : to_z w32 (of_z w32 c.args.s.fs_khz) ≡ c.args.s.fs_khz = kept w32 _ c.struct_told-1.given.1.1.1.1.1.0.1 in
-    rw khz (c.requires.0, c.requires.2, c.requires.3)
 
 pub returns : goal.returns
 returns c =
@@ -52,8 +41,8 @@ returns c =
     let z = isnt w32 s.loss_cnt 0 c.if-s-eq0.false in
     let v = s.settings.edition in
     let u = kept w32 v c.struct_told-4-1.given.1.0.1 in
-    let e : c.lost-new.result ≡ sounded v d h n = rw (c.lost-new.ensures.0, khz, u) in
-    let f : c.lost-new.new.frame ≡ sounding v d s.s_plc.rand_scale_q14 (get_or s.s_plc.prev_gain_q16 1 (pos 0)) h n frame =
-    rw (c.lost-new.ensures.1, khz, u, kept w16 s.s_plc.rand_scale_q14 c.struct_told-3-1.given.1.1.1.1.1.0.1, kept w32 (get_or s.s_plc.prev_gain_q16 1 (pos 0)) c.lost-arg-1.given) in
-    let one : ◌≡◌ {A = Framed} (record { state = with_noise s c.lost-new.result; frame = c.lost-new.new.frame }) (record { state = with_noise s (sounded v d h n); frame = sounding v d s.s_plc.rand_scale_q14 (get_or s.s_plc.prev_gain_q16 1 (pos 0)) h n frame }) = λ i. record { state = with_noise s (e i); frame = f i } in
+    let e : c.lost-t.result ≡ sounded v d h n = rw (c.lost-t.ensures.0, khz, u) in
+    let f : c.lost-t.new.frame ≡ sounding v d s.s_plc.rand_scale_q14 (get_or s.s_plc.prev_gain_q16 1 (pos 0)) h n frame =
+    rw (c.lost-t.ensures.1, khz, u, kept w16 s.s_plc.rand_scale_q14 c.struct_told-3-1.given.1.1.1.1.1.0.1, kept w32 (get_or s.s_plc.prev_gain_q16 1 (pos 0)) c.lost-arg-2-1.given) in
+    let one : ◌≡◌ {A = Framed} (record { state = with_noise s c.lost-t.result; frame = c.lost-t.new.frame }) (record { state = with_noise s (sounded v d h n); frame = sounding v d s.s_plc.rand_scale_q14 (get_or s.s_plc.prev_gain_q16 1 (pos 0)) h n frame }) = λ i. record { state = with_noise s (e i); frame = f i } in
     one ∙ sym (lost-is p s a.gains.now n frame z)

@@ -1,4 +1,4 @@
-use Prim.Native.Nat.{ℕ, suc, ◌+◌, ◌-◌, ◌^◌, ◌≤◌}
+use Prim.Native.Nat.{ℕ, suc, ◌+◌, ◌^◌, ◌≤◌}
 use mathlib.Core.Path.{◌≡◌}
 use mathlib.Core.List.{List, ◌++◌}
 use lib.IntN.{ℤ, pos}
@@ -11,10 +11,7 @@ use Rattle.cng.proofs.drawn.Given as goal
 abbrev pub value : List ℤ → ℕ → ℤ → ℕ → ℤ
 value exc mask seed i = get_or exc (mod_ℤ (floor_div (seed_at seed (suc i)) (2 ^ 24)) (mask + 1)) (pos 0)
 
-abbrev pub invariant-loop-i : goal.invariant-loop-i
-invariant-loop-i l =
-    (l.i ≤ l.i-end) × (l.i-end ≡ length l.initial.out) × (length l.out ≡ length l.initial.out) × (l.s ≡ seed_at l.seed l.i)
-    × (l.out ≡ tabulate l.i (value l.exc l.mask l.seed) ++ drop l.i l.initial.out)
-
-abbrev pub decreases-loop-i : goal.decreases-loop-i
-decreases-loop-i l = l.i-end - l.i
+abbrev pub invariant-loop-x : goal.invariant-loop-x
+invariant-loop-x l =
+    (l.x-index ≤ length l.initial.out) × (length l.out ≡ length l.initial.out) × (l.s ≡ seed_at l.seed l.x-index)
+    × (l.out ≡ tabulate l.x-index (value l.exc l.mask l.seed) ++ drop l.x-index l.initial.out)

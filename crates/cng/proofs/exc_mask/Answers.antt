@@ -1,10 +1,7 @@
-use mathlib.Core.Path.{refl, sym, ◌∙◌}
+use mathlib.Core.Path.{sym, ◌∙◌}
 use borrow.Author.Rules.{rules}
-use Rattle.cng.proofs.Numbers.{halved-again, halved_done, mask255, mask_half}
+use Rattle.cng.proofs.Numbers.{halved-again, halved_done, mask_half}
 use Rattle.cng.proofs.exc_mask.Goals as goal
-
-pub loop-mask-init : goal.loop-mask-init
-loop-mask-init c = (search rules, refl, mask255)
 
 pub loop-mask-preserved : goal.loop-mask-preserved
 loop-mask-preserved c =

@@ -8,12 +8,6 @@ use Rattle.cng.specs.Noise.{flat_line}
 use Rattle.cng.proofs.Numbers.{flat_le}
 use Rattle.cng.proofs.flat_line.Goals as goal
 
-pub overflow_mul-result : goal.overflow_mul-result
-overflow_mul-result c = omega (arith, flat_le c.args.d c.args.i c.requires.1)
-
-pub overflow_cast-result : goal.overflow_cast-result
-overflow_cast-result c = omega (arith, flat_le c.args.d c.args.i c.requires.1)
-
 pub returns : goal.returns
 unfolding flat_line
 returns c =

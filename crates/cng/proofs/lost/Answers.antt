@@ -13,11 +13,3 @@ noise-requires c =
     let at_rate : c.ready-h.result ≡ cng_ready (rate_of c.args.khz) c.args.held = rw (c.ready-h.ensures, to_z-of_z c.ranges.khz) in
     let b = cng_bounds (rate_of c.args.khz) c.args.held c.requires.1 in
     rw (order, at_rate) (c.requires.2, order_two (rates c.args.khz c.requires.0), none_negative _ _ (ready_held _ _ b).cng_smth_nlsf_q15)
-
-pub returns : goal.returns
-returns c =
-    let order : c.lpc_order-d.result ≡ order_of (rate_of c.args.khz) = c.lpc_order-d.ensures ∙ ap (λ k. order_of (rate_of k)) (to_z-of_z c.ranges.khz) in
-    let at_rate : c.ready-h.result ≡ cng_ready (rate_of c.args.khz) c.args.held = rw (c.ready-h.ensures, to_z-of_z c.ranges.khz) in (
-      rw (c.noise.ensures.0, order, at_rate, to_z-of_z c.ranges.edition),
-      rw (c.noise.ensures.1, order, at_rate, to_z-of_z c.ranges.edition, to_z-of_z c.ranges.scale, to_z-of_z c.ranges.last),
-    )

@@ -12,8 +12,8 @@ returns-then-g-b c =
     let larger : lt_z c.args.b.gain c.args.g ≡ true = lt_read {a = c.args.b.gain} (record { sfits = c.struct_told-1.given.0.1 }) c.ranges.g c.if-g-b.true in
     rw (larger, to_z-of_z c.ranges.g)
 
-pub returns : goal.returns
+pub returns-else-g-b : goal.returns-else-g-b
 unfolding louder
-returns c =
+returns-else-g-b c =
     let larger : lt_z c.args.b.gain c.args.g ≡ false = lt_read {a = c.args.b.gain} (record { sfits = c.struct_told-1.given.0.1 }) c.ranges.g c.if-g-b.false in
     rw larger refl

@@ -16,12 +16,6 @@ use Rattle.cng.specs.Noise.{exc_mask, drawn, noise_filter, noise_signal}
 use Rattle.cng.proofs.Signals.{loaded, signal, length-drawn}
 use Rattle.cng.proofs.noise_signal.Goals as goal
 
-pub copy32_at-requires : goal.copy32_at-requires
-copy32_at-requires c =
-    let sixteen : length c.args.h.cng_synth_state ≡ 16 = search rules in
-    let n = sixteen in
-    omega (arith, c.requires.0)
-
 pub returns : goal.returns
 unfolding noise_filter noise_signal
 returns c =
@@ -31,11 +25,11 @@ returns c =
     let n = length buf - 16 in
     let exc = drawn h.cng_exc_buf_q14 (exc_mask n) h.rand_seed n in
     let a = nlsf2a c.args.edition h.cng_smth_nlsf_q15 c.args.d in
-    let z = kept w32 h.rand_seed c.struct_told-1.given.1.1.1.1.0.1 in
-    let l : length (take n (drop 16 c.copy32_at.new.dst)) ≡ n = length-take-le n (drop 16 c.copy32_at.new.dst) (rw length-drop (omega (arith, c.copy32_at.auto))) in
+    let z = kept w32 h.rand_seed c.drawn-arg-3-1.given in
+    let l : length (take n (drop 16 c.copy_at.new.dst)) ≡ n = length-take-le n (drop 16 c.copy_at.new.dst) (rw length-drop (omega (arith, c.copy_at.auto))) in
     let e : c.drawn-seed.new.out ≡ exc = rw (c.drawn-seed.ensures.1, c.exc_mask.ensures.0, l, z) in
-    let b : put_mid 16 n c.copy32_at.new.dst c.drawn-seed.new.out ≡ h.cng_synth_state ++ exc =
-    rw (e, c.copy32_at.ensures) (loaded buf h.cng_synth_state exc sixteen c.requires.0 (length-drawn _ _ _ n)) in (
+    let b : put_mid 16 n c.copy_at.new.dst c.drawn-seed.new.out ≡ h.cng_synth_state ++ exc =
+    rw (e, c.copy_at.ensures) (loaded buf h.cng_synth_state exc sixteen c.requires.0 (length-drawn _ _ _ n)) in (
       rw (got w32 c.drawn-seed.type_inv c.drawn-seed.ensures.0, l, z),
       rw (c.synthesis.ensures, c.noise_filter-a.ensures, to_z-of_z c.ranges.edition, b)
           (signal h.cng_synth_state exc a (drop c.args.d (replicate 16 (pos 0))) c.args.d n sixteen (length-drawn _ _ _ n) (length-nlsf2a _ _ _)),

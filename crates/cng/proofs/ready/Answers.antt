@@ -20,9 +20,9 @@ returns-then-khz-h c =
     let same = ap (λ (z : ℤ). eq_ℤ z h.fs_khz) (sym (rate_kept c.args.khz c.requires) ∙ e) ∙ eq_ℤ_refl h.fs_khz in
     rw same refl
 
-pub returns : goal.returns
+pub returns-else-khz-h : goal.returns-else-khz-h
 unfolding cng_ready
-returns c =
+returns-else-khz-h c =
     let k = c.args.khz in
     let other = eq_ℤ_ne (pos (rate_of k)) c.args.h.fs_khz (λ p. c.if-khz-h.false (ap (of_z w32) (rate_kept k c.requires ∙ p))) in
     rw (c.silk_cng_reset.ensures, to_z-of_z c.ranges.khz, other) refl

@@ -8,8 +8,3 @@ pub silenced-requires : goal.silenced-requires
 silenced-requires c =
     let order : c.lpc_order-d.result ≡ order_of (rate_of c.args.khz) = c.lpc_order-d.ensures ∙ ap (λ k. order_of (rate_of k)) (to_z-of_z c.ranges.khz) in
     rw order (order_le _)
-
-pub returns : goal.returns
-returns c =
-    let order : c.lpc_order-d.result ≡ order_of (rate_of c.args.khz) = c.lpc_order-d.ensures ∙ ap (λ k. order_of (rate_of k)) (to_z-of_z c.ranges.khz) in
-    rw (c.silenced.ensures, order, c.followed.ensures, c.ready-h.ensures, to_z-of_z c.ranges.khz, to_z-of_z c.ranges.nb_subfr, to_z-of_z c.ranges.signal_type)

@@ -1,10 +1,8 @@
-use Prim.Native.Nat.{◌-◌, ◌≤◌}
+use Prim.Native.Nat.{◌≤◌}
 use mathlib.Core.Path.{◌≡◌}
+use lib.ListN.{length}
 use Rattle.cng.specs.Noise.{smoothed_gain}
 use Rattle.cng.proofs.smoothed_gain.Given as goal
 
-abbrev pub invariant-loop-k : goal.invariant-loop-k
-invariant-loop-k l = (l.k ≤ l.n) × (l.gain ≡ smoothed_gain l.held l.gains l.k)
-
-abbrev pub decreases-loop-k : goal.decreases-loop-k
-decreases-loop-k l = l.n - l.k
+abbrev pub invariant-loop-g : goal.invariant-loop-g
+invariant-loop-g l = (l.g-index ≤ length l.g-items) × (l.gain ≡ smoothed_gain l.held l.gains l.g-index)

@@ -1,4 +1,4 @@
-use Prim.Native.Nat.{ℕ, ◌-◌, ◌≤◌}
+use Prim.Native.Nat.{ℕ, ◌≤◌}
 use mathlib.Core.Path.{◌≡◌}
 use mathlib.Core.List.{List, ◌++◌}
 use lib.IntN.{ℤ, pos}
@@ -11,7 +11,5 @@ abbrev pub line : List ℤ → List ℤ → ℕ → ℤ
 line held lines i = smoothed_line (get_or held i (pos 0)) (get_or lines i (pos 0))
 
 abbrev pub invariant-loop-i : goal.invariant-loop-i
-invariant-loop-i l = (l.i ≤ l.d) × (length l.new ≡ 16) × (l.new ≡ tabulate l.i (line l.held l.lines) ++ drop l.i l.held)
-
-abbrev pub decreases-loop-i : goal.decreases-loop-i
-decreases-loop-i l = l.d - l.i
+invariant-loop-i l =
+    (l.i ≤ length l.initial.line-items) × (l.line-items ≡ tabulate l.i (line l.held l.lines) ++ drop l.i l.initial.line-items)

@@ -1,9 +1,7 @@
-use Prim.Native.Nat.{◌+◌}
 use mathlib.Core.Path.{◌≡◌, sym, ◌∙◌}
 use mathlib.Core.Bool.{◌||◌}
 use mathlib.Core.List.{List, ◌∷◌, map}
 use lib.IntN.{ℤ}
-use lib.ListN.{take, drop}
 use mir.Syntax.{w32}
 use mir.Val.{to_z, of_z}
 use mir.Facts.{to_z-of_z}
@@ -26,7 +24,7 @@ module _ (c : After-lost_heard-h) where
   N = to_z w32 (of_z w32 c.args.nb_subfr)
 
   abbrev behind : List Recorded
-  behind = map (recorded_at c.args.bytes.now) (drop (c.args.k + 1) (take c.args.n c.args.records.now))
+  behind = map (recorded_at c.args.bytes.now) c.args.behind.now
 
   turn : passes c.args.limit c.args.khz c.args.nb_subfr c.args.s (lost ∷ behind) ≡ (c.lost_heard-h.result.loud || passes L K N c.lost_heard-h.result.state behind)
   turn =
@@ -36,8 +34,9 @@ module _ (c : After-lost_heard-h) where
       sym (λ i. passes (l i) (h i) (m i) c.args.s (lost ∷ behind)) ∙ heard-step L K N c.args.s lost behind c.lost_heard-h.result c.lost_heard-h.ensures
 
 pub returns-then-h : goal.returns-then-h
-returns-then-h c = sym (turn (goal.at.returns-then-h c).After-lost_heard-h ∙ or_true c.lost_heard-h.result.loud _ c.if-h.true)
+returns-then-h c =
+    c.if-h.true ∙ sym (turn (goal.at.returns-then-h c).After-lost_heard-h ∙ or_true c.lost_heard-h.result.loud _ c.if-h.true)
 
-pub returns : goal.returns
-returns c =
-    c.passes.ensures ∙ sym (turn (goal.at.returns c).After-lost_heard-h ∙ or_false c.lost_heard-h.result.loud _ c.if-h.false)
+pub returns-else-h : goal.returns-else-h
+returns-else-h c =
+    c.passes.ensures ∙ sym (turn (goal.at.returns-else-h c).After-lost_heard-h ∙ or_false c.lost_heard-h.result.loud _ c.if-h.false)

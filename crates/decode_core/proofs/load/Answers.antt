@@ -12,4 +12,4 @@ slice_bounds-adjust-end-2 c = sym (length-take-le 16 c.args.signal.now (omega ar
 pub returns : goal.returns
 returns c =
     let s = c.args.signal.now in
-    rw (c.copy32_at.ensures, c.adjust.ensures, to_z-of_z c.ranges.adj) (loaded (smulww c.args.adj) s c.args.exc.now c.requires)
+    rw (c.copy_at.ensures, c.adjust.ensures, to_z-of_z c.ranges.adj) (loaded (smulww c.args.adj) s c.args.exc.now c.requires)

@@ -6,12 +6,12 @@ use mir.Facts.{to_z-of_z}
 use Rattle.decode_core.specs.Core.{smoothed}
 use Rattle.decode_core.proofs.smoothed.Goals as goal
 
-pub copy16_at-requires : goal.copy16_at-requires
-copy16_at-requires c =
+pub copy_at-requires : goal.copy_at-requires
+copy_at-requires c =
     let n : length c.args.c.ltp_coef_q14 ≡ 20 = search rules in
     omega (arith, c.requires)
 
 pub returns : goal.returns
 unfolding smoothed
 returns c =
-    rw (c.copy16_at.ensures, to_z-of_z c.ranges.lag)
+    rw (c.copy_at.ensures, to_z-of_z c.ranges.lag)

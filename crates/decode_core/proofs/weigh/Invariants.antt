@@ -1,4 +1,4 @@
-use Prim.Native.Nat.{ℕ, ◌≤◌, ◌-◌}
+use Prim.Native.Nat.{ℕ}
 use mathlib.Core.Path.{◌≡◌}
 use mathlib.Core.List.{◌++◌}
 use lib.IntN.{pos}
@@ -9,8 +9,4 @@ use Rattle.decode_core.proofs.weigh.Given as goal
 
 abbrev pub invariant-loop-i : goal.invariant-loop-i
 invariant-loop-i l =
-    (l.i ≤ l.i-end) × (l.i-end ≡ length l.residual) × (length l.past ≡ length l.initial.past)
-    × (l.past ≡ tabulate l.i (λ (k : ℕ). smulwb l.inverse (get_or l.residual k (pos 0))) ++ drop l.i l.initial.past)
-
-abbrev pub decreases-loop-i : goal.decreases-loop-i
-decreases-loop-i l = l.i-end - l.i
+    (length l.past ≡ length l.residual) × (l.past ≡ tabulate l.i (λ (k : ℕ). smulwb l.inverse (get_or l.residual k (pos 0))) ++ drop l.i l.initial.past)

@@ -1,80 +1,36 @@
-use mathlib.Core.Path.{◌≡◌, sym, ap, ◌∙◌, subst}
+use mathlib.Core.Path.{sym, ap, ◌∙◌}
 use mathlib.Core.List.{[]}
-use native.Mathlib.Omega.{arith}
 use lib.ListN.{length}
-use lib.Seq.{length-take-le}
 use mir.Facts.{to_z-of_z}
 use Rattle.refusal.specs.First.{first_of}
-use Rattle.refusal.specs.Refusals.{refusal_number}
-use Rattle.shape.specs.Shape.{shape, frame_length}
-use Rattle.decoder.specs.Settings.{squelched}
-use Rattle.decoder.specs.Reshape.{reshaped_by, reshaped}
-use Rattle.decoder.specs.State.{shape_of}
-use Rattle.decoder.specs.declared.SilkDecoderState.{SilkDecoderState}
+use Rattle.refusal.specs.Refusals.{code_of}
+use Rattle.refusal.proofs.Clear.{at_err}
 use Rattle.decoder.specs.declared.Frame.TheVariants.{Lost}
 use Rattle.judge.specs.Rows.{lost_rows}
-use Rattle.judge.proofs.Bounds.{LostFits, lost-fits}
-use Rattle.decode_frame.specs.WholeFrame.{lost, muted, whole_frame}
 use Rattle.decode_frame.specs.Call.{frame_call}
-use Rattle.decode_frame.specs.Answer.{frame_refusal}
-use Rattle.decode_frame.proofs.Answers.{refused-answer, played-answer}
-use Rattle.decode_frame.proofs.lost_frame.Goals.{After-frame_length-n, After-lost-refusal, After-number, After-reshaped-t}
+use Rattle.decode_frame.specs.Answer.{frame_refusal, frame_answer, frame_output}
+use Rattle.decode_frame.proofs.Answers.{refused-answer}
 use Rattle.decode_frame.proofs.lost_frame.Goals as goal
 
-judged : (c : After-lost-refusal) → let a = c.args in c.lost-refusal.result ≡ frame_refusal a.s (frame_call a.khz a.nb_subfr Lost a.c [] [] [] a.xq.now)
+pub returns-in_err-lost : goal.returns-in_err-lost
 unfolding frame_refusal
-judged c =
+returns-in_err-lost c =
     let a = c.args in
     let f = c.ranges in
-    c.lost-refusal.ensures ∙ λ i. first_of (lost_rows (to_z-of_z f.khz i) (to_z-of_z f.nb_subfr i) a.s (length a.xq.now))
+    refused-answer a.s (frame_call a.khz a.nb_subfr Lost a.c [] [] [] a.xq.now) _
+    (c.in_err-lost.ensures ∙ λ i. first_of (lost_rows (to_z-of_z f.khz i) (to_z-of_z f.nb_subfr i) a.s (length a.xq.now)))
+    (at_err _ _ c.from_residual.ensures.1)
 
--- the number of the refusal
-refused : (c : After-number) → let a = c.args in c.number.result ≡ refusal_number (frame_refusal a.s (frame_call a.khz a.nb_subfr Lost a.c [] [] [] a.xq.now))
-refused c = c.number.ensures ∙ ap refusal_number (judged c.before)
-
--- the frame's length
-samples : (c : After-frame_length-n) → let a = c.args in c.frame_length-n.result ≡ frame_length (shape a.khz a.nb_subfr)
-samples c =
-    let f = c.ranges in
-    c.frame_length-n.ensures ∙ λ i. frame_length (shape (to_z-of_z f.khz i) (to_z-of_z f.nb_subfr i))
-
--- the state as the coming shape leaves it
-moved : (c : After-reshaped-t) → let a = c.args in c.reshaped-t.result ≡ reshaped a.khz a.nb_subfr a.s
-moved c =
-    c.reshaped-t.ensures ∙ λ i. reshaped (to_z-of_z c.ranges.khz i) (to_z-of_z c.ranges.nb_subfr i) c.args.s
-
--- what no refusal says of the frame
-fit : (c : After-reshaped-t) → LostFits c.reshaped-t.result (length c.args.xq.now)
+pub play_lost-requires : goal.play_lost-requires
 unfolding frame_refusal
-fit c =
-    let a = c.args in
-    let n = length a.xq.now in
-    subst (λ (t : SilkDecoderState). LostFits t n) (sym (moved c)) (lost-fits a.khz a.nb_subfr a.s n (sym (refused c.before.before.before) ∙ c.if-number-ne0.false))
-
-whole : (c : After-reshaped-t) → c.frame_length-n.result ≡ frame_length (shape_of c.reshaped-t.result)
-unfolding reshaped reshaped_by
-whole c = samples c.before ∙ sym (ap (λ (t : SilkDecoderState). frame_length (shape_of t)) (moved c))
-
-pub returns-then-number-ne0 : goal.returns-then-number-ne0
-returns-then-number-ne0 c =
-    let a = c.args in
-    refused-answer a.s (frame_call a.khz a.nb_subfr Lost a.c [] [] [] a.xq.now) _ (judged c.before.before) (λ e. c.if-number-ne0.true (refused c.before ∙ e))
-
-pub slice_bounds-lost-end : goal.slice_bounds-lost-end
-slice_bounds-lost-end c = omega (arith, whole c, (fit c).output_lent)
-
-pub slice_bounds-lost-end-2 : goal.slice_bounds-lost-end-2
-slice_bounds-lost-end-2 c = sym (length-take-le _ _ (omega (arith, whole c.before, (fit c.before).output_lent)))
-
-pub lost-o-requires : goal.lost-o-requires
-lost-o-requires c =
-    let f = fit c.before in
-    let l = whole c.before in
-    (f.accepted, f.not_full, length-take-le _ _ (omega (arith, l, f.output_lent)) ∙ l)
+play_lost-requires c = sym (ap code_of c.in_ok-lost.ensures)
 
 pub returns : goal.returns
-unfolding whole_frame reshaped reshaped_by
 returns c =
-    let o = c.lost-o in
     let a = c.args in
-    played-answer a.s (frame_call a.khz a.nb_subfr Lost a.c [] [] [] a.xq.now) _ (judged c.before.before.before.before.before.before.before.before.before) (sym (refused c.before.before.before.before.before.before.before.before) ∙ c.if-number-ne0.false) _ _ (o.ensures ∙ ap (λ (t : SilkDecoderState). muted (shape_of t) (squelched t) (lost (shape_of t) t a.c)) (moved c.before.before.before.before.before)) (samples c.before.before.before.before.before.before)
+    let khz = to_z-of_z c.ranges.khz in
+    let nb = to_z-of_z c.ranges.nb_subfr in
+    let e = c.play_lost.ensures in (
+      e.0 ∙ λ i. frame_answer a.s (frame_call (khz i) (nb i) Lost a.c [] [] [] a.xq.now),
+      e.1 ∙ λ i. frame_output a.s (frame_call (khz i) (nb i) Lost a.c [] [] [] a.xq.now),
+    )

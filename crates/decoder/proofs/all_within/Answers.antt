@@ -1,22 +1,26 @@
-use lib.ListN.{get_or}
+use mathlib.Core.Path.{◌≡◌, refl, sym, ◌∙◌}
+use mathlib.Core.List.{map}
+use lib.ListN.{get_or, length}
 use lib.IntN.{pos}
-use mathlib.Core.Path.{refl}
-use native.Mathlib.Nat.{le_antisymm}
+use Prim.Native.Nat.{◌<◌}
 use native.Mathlib.Numerals.{add-one}
 use mir.Syntax.{w32}
-use mir.Facts.{to_z-of_z}
+use borrow.Author.Rules.{rules}
+use Rattle.std.proofs.lemmas.List.{get_or-map, get_or-take}
 use Rattle.word.proofs.Words.{kept}
 use Rattle.decoder.specs.Ranges.{all_within}
-use borrow.Author.Rules.{rules}
 use Rattle.decoder.proofs.all_within.Goals as goal
 
-pub loop-i-init : goal.loop-i-init
+pub loop-x-init : goal.loop-x-init
 unfolding all_within
-loop-i-init c = (search rules, refl)
+loop-x-init g c = refl
 
-pub loop-i-preserved : goal.loop-i-preserved
+pub loop-x-preserved : goal.loop-x-preserved
 unfolding all_within
-loop-i-preserved c = (search rules, rw (add-one, c.both-ok.ensures, c.within.ensures, kept w32 (get_or c.args.xs.now c.loop-i.i (pos 0)) c.within-arg-1.given, c.loop-i.invariant.1))
-
-pub returns : goal.returns
-returns c = rw (c.loop-i.invariant.1, to_z-of_z c.ranges.low, to_z-of_z c.ranges.high, le_antisymm c.loop-i.invariant.0 c.loop-i-test.false)
+loop-x-preserved g c =
+    let i = c.loop-x.x-index in
+    let x = c.x-item.result in
+    let l : i < c.args.n = search rules in
+    let k : i < length c.args.xs.now = search rules in
+    let t : get_or (map g.T.Number.number c.args.xs.now) i (pos 0) ≡ c.number.result = rw (c.number.ensures, get_or-map g.T.Number.number c.args.xs.now i x (pos 0) k, sym (c.x-item.is ∙ get_or-take c.args.n c.args.xs.now i x l)) in
+    rw (add-one, c.within-ok.ensures, kept w32 c.number.result c.number.type_inv, t, c.loop-x.invariant)

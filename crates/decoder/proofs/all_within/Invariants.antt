@@ -1,10 +1,7 @@
-use Prim.Native.Nat.{◌≤◌, ◌-◌}
 use mathlib.Core.Path.{◌≡◌}
+use mathlib.Core.List.{map}
 use Rattle.decoder.specs.Ranges.{all_within}
 use Rattle.decoder.proofs.all_within.Given as goal
 
-abbrev pub invariant-loop-i : goal.invariant-loop-i
-invariant-loop-i l = (l.i ≤ l.n) × (l.ok ≡ all_within (l.low) (l.high) l.xs l.i)
-
-abbrev pub decreases-loop-i : goal.decreases-loop-i
-decreases-loop-i l = l.n - l.i
+abbrev pub invariant-loop-x : goal.invariant-loop-x
+invariant-loop-x g l = l.ok ≡ all_within l.low l.high (map g.T.Number.number l.xs) l.x-index

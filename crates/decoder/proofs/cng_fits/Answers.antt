@@ -2,6 +2,8 @@ use mir.Syntax.{w32}
 use mir.Facts.{to_z-of_z}
 use Rattle.word.proofs.Words.{kept}
 use Rattle.decoder.specs.Ranges.{cng_fits}
+use mathlib.Core.Bool.{◌&&◌}
+use Rattle.decoder.proofs.Between.{only-or}
 use Rattle.decoder.proofs.Tests.{small}
 use Rattle.decoder.proofs.cng_fits.Goals as goal
 
@@ -12,10 +14,9 @@ pub returns : goal.returns
 unfolding cng_fits
 returns c =
     rw (
-      c.only_if.ensures,
+      only-or c.equals.result (c.lines_fit.result && c.within.result),
       c.equals.ensures,
       c.rate_of.ensures,
-      c.both-held.ensures,
       c.within.ensures,
       c.lines_fit.ensures,
       to_z-of_z c.ranges.khz,

@@ -7,11 +7,8 @@ pub returns : goal.returns
 unfolding history_row reshaped reshaped_by
 returns c nb =
     rw (
-      c.both-3.ensures,
       c.settings_fit.ensures,
-      c.both-2.ensures,
       c.cng_fits.ensures,
-      c.both.ensures,
       c.plc_fits.ensures,
       c.decoder_fits.ensures nb,
       to_z-of_z c.ranges.khz,

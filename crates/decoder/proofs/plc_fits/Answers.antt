@@ -2,6 +2,7 @@ use mir.Syntax.{w16, w32}
 use mir.Facts.{to_z-of_z}
 use Rattle.word.proofs.Words.{kept}
 use Rattle.decoder.specs.Ranges.{plc_fits}
+use Rattle.decoder.proofs.Between.{only-or}
 use Rattle.decoder.proofs.Tests.{small}
 use Rattle.decoder.proofs.plc_fits.Goals as goal
 
@@ -12,25 +13,19 @@ pub returns : goal.returns
 unfolding plc_fits
 returns c =
     rw (
-      c.both.ensures,
-      c.only_if.ensures,
+      only-or (c.equals.result) c.plc_held.result,
       c.plc_held.ensures,
       c.equals.ensures,
       c.rate_of.ensures,
-      c.both-ok-5.ensures,
+      c.within-4.ensures,
       c.within-3.ensures,
-      c.both-ok-4.ensures,
-      c.both-ok-3.ensures,
-      c.within-2.ensures,
       kept w32 c.wide16-2.result c.wide16-2.type_inv,
       c.wide16-2.ensures,
-      c.both-ok-2.ensures,
-      c.within.ensures,
+      c.within-2.ensures,
       kept w32 c.wide16.result c.wide16.type_inv,
       c.wide16.ensures,
-      c.both-ok.ensures,
       c.taps_held.ensures,
-      c.within-ok.ensures,
+      c.within.ensures,
       to_z-of_z c.ranges.khz,
       kept w32 c.args.h.fs_khz c.struct_told-6-1.given.1.1.1.1.1.1.1.1.1.1.0.1,
       kept w32 c.args.h.conc_energy_shift c.struct_told-5-1.given.1.1.1.1.1.1.1.0.1,

@@ -1,3 +1,4 @@
+use Rattle.std.proofs.lemmas.List.{map-id}
 use mathlib.Core.Path.{sym}
 use native.Mathlib.Nat.{le_of_eq}
 use mir.Syntax.{w32}
@@ -16,11 +17,10 @@ pub returns : goal.returns
 unfolding plc_held
 returns c =
     rw (
-      c.both.ensures,
       c.subframes_held.ensures,
-      c.both-ok.ensures,
       c.all_within.ensures,
-      c.within-ok.ensures,
+      map-id,
+      c.within.ensures,
       kept w32 c.mul32-high.result c.mul32-high.type_inv,
       c.mul32-high.ensures,
       kept w32 c.lag_max.result c.lag_max.type_inv,

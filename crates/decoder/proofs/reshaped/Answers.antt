@@ -1,24 +1,21 @@
 use mathlib.Core.Path.{◌≡◌, sym, ap, ◌∙◌}
 use mathlib.Core.Bool.{Bool}
 use lib.IntN.{pos}
+use lib.ListN.{replicate}
 use mir.Syntax.{w32}
 use mir.Val.{of_z}
 use mir.Facts.{to_z-of_z}
 use Rattle.word.proofs.Order.{eq_ℤ_ne}
 use Rattle.decoder.specs.With.{with_memory, with_out_buf, with_lag, with_first, with_type, with_shape}
 use Rattle.decoder.specs.Reshape.{reshaped, reshaped_by}
-use Rattle.decoder.proofs.reshaped.Goals.{After-with_shape-t}
+use Rattle.decoder.specs.declared.SilkDecoderState.{SilkDecoderState}
 use Rattle.decoder.proofs.reshaped.Goals as goal
-
--- the state with the coming shape
-sized : (c : After-with_shape-t) → let a = c.args in c.with_shape-t.result ≡ with_shape a.s a.khz a.nb_subfr
-sized c =
-    c.with_shape-t.ensures ∙ λ i. with_shape c.args.s (to_z-of_z c.ranges.khz i) (to_z-of_z c.ranges.nb_subfr i)
 
 pub returns : goal.returns
 unfolding reshaped reshaped_by
 returns c =
     let s = c.args.s in
     let k = c.args.khz in
-    (λ i. with_first (with_type (with_lag (with_memory (with_out_buf (sized c.before.before.before.before.before i) (c.samples480-out_buf.ensures i)) (c.zeros16-memory.ensures i)) (pos 100)) (pos 0)) (pos 1))
+    let sized : c.with_shape-t.result ≡ with_shape s k c.args.nb_subfr = c.with_shape-t.ensures ∙ λ i. with_shape s (to_z-of_z c.ranges.khz i) (to_z-of_z c.ranges.nb_subfr i) in
+    ap (λ (t : SilkDecoderState). with_first (with_type (with_lag (with_memory (with_out_buf t (replicate 480 (pos 0))) (replicate 16 (pos 0))) (pos 100)) (pos 0)) (pos 1)) sized
     ∙ ap (λ (x : Bool). reshaped_by x k c.args.nb_subfr s) (sym (eq_ℤ_ne k s.fs_khz (λ z. c.if-khz-s.false (ap (of_z w32) z))))

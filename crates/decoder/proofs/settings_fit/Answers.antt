@@ -8,7 +8,6 @@ unfolding settings_fit
 returns c =
     let v = c.args.v in
     rw (
-      c.both.ensures,
       c.is_edition.ensures,
       c.is_squelch.ensures,
       kept w32 v.edition c.struct_told-2-1.given.1.0.1,

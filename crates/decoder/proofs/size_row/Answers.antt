@@ -21,19 +21,15 @@ pub returns : goal.returns
 unfolding size_row
 returns c =
     rw (
-      c.both-ok-4.ensures,
       c.equals-4.ensures,
       c.lpc_order.ensures,
-      c.both-ok-3.ensures,
       c.equals-3.ensures,
       c.ltp_mem_length.ensures,
-      c.both-ok-2.ensures,
       c.equals-2.ensures,
       c.subfr_length.ensures,
-      c.both-ok.ensures,
       c.equals.ensures,
       c.frame_length.ensures,
-      c.is_count-ok.ensures,
+      c.is_count.ensures,
       kept w32 c.args.s.lpc_order c.struct_told-7-1.given.1.1.1.1.1.1.1.1.1.1.0.1,
       kept w32 c.args.s.ltp_mem_length c.struct_told-6-1.given.1.1.1.1.1.1.1.1.1.0.1,
       kept w32 c.args.s.subfr_length c.struct_told-5-1.given.1.1.1.1.1.1.1.1.0.1,

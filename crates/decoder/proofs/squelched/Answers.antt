@@ -8,7 +8,6 @@ unfolding squelched
 returns c =
     let s = c.args.s in
     rw (
-      c.both.ensures,
       kept w64 c.sum64.result c.sum64.type_inv,
       c.sum64.ensures,
       kept w64 c.wide.result c.wide.type_inv,

@@ -23,14 +23,10 @@ pub returns : goal.returns
 unfolding subframes_held
 returns c =
     rw (
-      c.either.ensures,
-      c.both.ensures,
       c.equals-5.ensures,
       c.subfr_length.ensures,
-      c.either-counted.ensures,
       c.equals-4.ensures,
       c.equals-3.ensures,
-      c.both-few.ensures,
       c.equals-2.ensures,
       c.equals.ensures,
       to_z-of_z c.ranges.khz,

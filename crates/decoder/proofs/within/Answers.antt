@@ -6,7 +6,6 @@ pub returns : goal.returns
 unfolding within
 returns c =
     rw (
-      c.both.ensures,
       to_z-of_z c.ranges.low,
       to_z-of_z c.ranges.high,
       to_z-of_z c.ranges.z,

@@ -18,33 +18,29 @@ use Rattle.glue.proofs.ramp.Goals.{After-add32-g, After-scaled}
 use Rattle.glue.proofs.ramp.Goals as goal
 
 -- the sample of a turn
-sample : (c : After-scaled) → c.scaled.result ≡ wrap16 (smulwb (to_z w32 c.loop-i.g-bits) (get_or c.loop-i.frame c.loop-i.i (pos 0)))
+sample : (c : After-scaled) → c.scaled.result ≡ wrap16 (smulwb (to_z w32 c.loop-x.g-bits) (get_or c.loop-x.frame c.loop-x.x-index (pos 0)))
 sample c =
-    c.scaled.ensures ∙ rw (kept w16 (get_or c.loop-i.frame c.loop-i.i (pos 0)) c.scaled-arg-1.given)
+    c.scaled.ensures ∙ rw (kept w16 (get_or c.loop-x.frame c.loop-x.x-index (pos 0)) c.scaled-arg-1.given)
 
-next : (c : After-add32-g) → to_z w32 (of_z w32 c.add32-g.result) ≡ wrap32 (to_z w32 c.loop-i.g-bits +ℤ to_z w32 (of_z w32 c.args.slope))
+next : (c : After-add32-g) → to_z w32 (of_z w32 c.add32-g.result) ≡ wrap32 (to_z w32 c.loop-x.g-bits +ℤ to_z w32 (of_z w32 c.args.slope))
 next c = kept w32 _ c.add32-g.type_inv ∙ c.add32-g.ensures
 
-pub loop-i-init : goal.loop-i-init
-loop-i-init c = (search rules, refl, refl, refl)
+pub loop-x-init : goal.loop-x-init
+loop-x-init c = refl
 
 pub returns-then-g-gt65536 : goal.returns-then-g-gt65536
 returns-then-g-gt65536 c =
     rw (kept w16 c.scaled.result c.scaled.type_inv, ← to_z-of_z c.ranges.gain, ← to_z-of_z c.ranges.slope)
-    (sym (off c.loop-i.frame c.loop-i.i (to_z w32 c.loop-i.g-bits) (to_z w32 (of_z w32 c.args.slope)) c.scaled.result (omega arith) (sample c.before.before) (rw (next c.before) at c.if-g-gt65536.true)) ∙ sym c.loop-i.invariant.3)
+    (sym (off c.loop-x.frame c.loop-x.x-index (to_z w32 c.loop-x.g-bits) (to_z w32 (of_z w32 c.args.slope)) c.scaled.result (omega arith) (sample c.before.before) (rw (next c.before) at c.if-g-gt65536.true)) ∙ sym c.loop-x.invariant)
 
-pub loop-i-preserved : goal.loop-i-preserved
-loop-i-preserved c = (
-  search rules,
-  search rules,
-  search rules,
-  c.loop-i.invariant.3
-      ∙ rw (add-one, kept w16 c.scaled.result c.scaled.type_inv, next c.before)
-      (on c.loop-i.frame c.loop-i.i (to_z w32 c.loop-i.g-bits) (to_z w32 (of_z w32 c.args.slope)) c.scaled.result (omega arith) (sample c.before.before) (rw (next c.before) at c.if-g-gt65536.false)),
-)
+pub loop-x-preserved : goal.loop-x-preserved
+loop-x-preserved c =
+    c.loop-x.invariant
+    ∙ rw (add-one, kept w16 c.scaled.result c.scaled.type_inv, next c.before)
+    (on c.loop-x.frame c.loop-x.x-index (to_z w32 c.loop-x.g-bits) (to_z w32 (of_z w32 c.args.slope)) c.scaled.result (omega arith) (sample c.before.before) (rw (next c.before) at c.if-g-gt65536.false))
 
 pub returns : goal.returns
 unfolding ramped
 returns c =
     rw (← to_z-of_z c.ranges.gain, ← to_z-of_z c.ranges.slope)
-    (sym (c.loop-i.invariant.3 ∙ rw (take_all c.loop-i.i c.loop-i.frame (omega arith), drop_of_length-le c.loop-i.frame {i = c.loop-i.i} (omega arith)) (append-nil c.loop-i.frame)))
+    (sym (c.loop-x.invariant ∙ rw (take_all c.loop-x.x-index c.loop-x.frame (omega arith), drop_of_length-le c.loop-x.frame {i = c.loop-x.x-index} (omega arith)) (append-nil c.loop-x.frame)))

@@ -1,23 +1,25 @@
 use mir.Syntax.{w32}
 use Rattle.word.proofs.Words.{kept}
-use Rattle.refusal.specs.First.{first_or}
+use borrow.Author.Rules.{rules}
+use Rattle.refusal.proofs.Clear.{row_stops, row_passes, run_stops, run_passes}
 use lib.Dec.{lit<}
+use Rattle.decoder.specs.Rows.{state_rows}
 use Rattle.judge.proofs.cng.Goals as goal
 
-pub equals-heard-requires : goal.equals-heard-requires
-equals-heard-requires c = lit< tt
+pub equals-requires : goal.equals-requires
+equals-requires c = lit< tt
+
+pub returns-in_err-state_rows : goal.returns-in_err-state_rows
+returns-in_err-state_rows c = run_stops (state_rows c.args.s) _ c.state_rows.ensures c.in_err-state_rows.was c.from_residual.ensures.1
+
+pub returns-in_err-refuse_if : goal.returns-in_err-refuse_if
+returns-in_err-refuse_if c =
+    let s = c.args.s in
+    run_passes (state_rows s) _ c.state_rows.ensures c.in_ok-state_rows.was
+    (row_stops _ _ c.refuse_if.ensures (rw (c.equals.ensures, c.gain_row.ensures, kept w32 s.loss_cnt (search rules), kept w32 s.nb_subfr (search rules))) c.in_err-refuse_if.was c.from_residual-in_err-refuse_if.ensures.1)
 
 pub returns : goal.returns
-unfolding first_or
 returns c =
-    rw (
-      c.state_rows.ensures,
-      c.first.ensures,
-      c.both.ensures,
-      c.equals-heard.ensures,
-      kept w32 _ c.struct_told-1.given.1.1.1.1.1.1.1.1.1.1.1.1.1.1.0.1,
-      c.gain_row-gain.ensures,
-      kept w32 _ c.struct_told-2-1.given.1.1.1.1.1.1.0.1,
-      c.first-last.ensures,
-      c.length_row.ensures,
-    )
+    let s = c.args.s in
+    run_passes (state_rows s) _ c.state_rows.ensures c.in_ok-state_rows.was
+    (row_passes _ _ c.refuse_if.ensures (rw (c.equals.ensures, c.gain_row.ensures, kept w32 s.loss_cnt (search rules), kept w32 s.nb_subfr (search rules))) c.in_ok-refuse_if.was (rw (c.refuse_if-2.ensures, c.length_row.ensures)))

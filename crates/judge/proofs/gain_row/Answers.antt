@@ -1,3 +1,4 @@
+use Rattle.std.proofs.lemmas.List.{map-id}
 use mathlib.Core.Path.{◌≡◌}
 use native.Mathlib.Omega.{arith}
 use lib.ListN.{length}
@@ -16,4 +17,4 @@ all_within-requires c =
 
 pub returns : goal.returns
 unfolding gain_row
-returns c = rw (c.all_within.ensures, c.count_of.ensures, to_z-of_z c.ranges.nb_subfr)
+returns c = rw (c.all_within.ensures, map-id, c.count_of.ensures, to_z-of_z c.ranges.nb_subfr)

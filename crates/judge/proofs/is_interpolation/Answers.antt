@@ -3,13 +3,13 @@ use Rattle.word.proofs.Order.{lt_read_l}
 use Rattle.decoder.proofs.Ends.{below, at_most}
 use Rattle.judge.proofs.is_interpolation.Goals as goal
 
-pub returns-in-0-to-3 : goal.returns-in-0-to-3
-returns-in-0-to-3 c =
-    at_most 4 c.args.n (lt_read_l (pos 0) c.ranges.n c.in-0-to-3.if-n-lt0-own.false) (lt_read_l (pos 5) c.ranges.n c.in-0-to-3.if-n-lt5-own.true)
+pub returns-in-0-to-4 : goal.returns-in-0-to-4
+returns-in-0-to-4 c =
+    at_most 4 c.args.n (lt_read_l (pos 0) c.ranges.n c.in-0-to-4.if-matches-own.false) (lt_read_l (pos 5) c.ranges.n c.in-0-to-4.if-matches-2-own.true)
 
 pub returns-in_default : goal.returns-in_default
-returns-in_default c = below 4 c.args.n (lt_read_l (pos 0) c.ranges.n c.in_default.if-n-lt0-own.true)
+returns-in_default c = below 4 c.args.n (lt_read_l (pos 0) c.ranges.n c.in_default.if-matches-own.true)
 
 pub returns-in_default-2 : goal.returns-in_default-2
 returns-in_default-2 c =
-    at_most 4 c.args.n (lt_read_l (pos 0) c.ranges.n c.in_default.if-n-lt0-own.false) (lt_read_l (pos 5) c.ranges.n c.in_default.if-n-lt5-own.false)
+    at_most 4 c.args.n (lt_read_l (pos 0) c.ranges.n c.in_default.if-matches-own.false) (lt_read_l (pos 5) c.ranges.n c.in_default.if-matches-2-own.false)

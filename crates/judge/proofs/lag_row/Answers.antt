@@ -1,3 +1,4 @@
+use Rattle.std.proofs.lemmas.List.{map-id}
 use mathlib.Core.Path.{◌≡◌}
 use native.Mathlib.Omega.{arith}
 use borrow.Author.Rules.{rules}
@@ -7,6 +8,7 @@ use mir.Val.{to_z, of_z}
 use mir.Facts.{to_z-of_z}
 use Rattle.word.proofs.Words.{kept}
 use Rattle.shape.proofs.Shapes.{count_le}
+use Rattle.decoder.proofs.Between.{only-not}
 use Rattle.judge.specs.Rows.{lag_row}
 use Rattle.judge.proofs.lag_row.Goals as goal
 
@@ -19,9 +21,10 @@ pub returns : goal.returns
 unfolding lag_row
 returns c =
     rw (
-      c.only_if.ensures,
+      only-not c.is_voiced.result c.all_within-ok.result,
       c.is_voiced.ensures,
       c.all_within-ok.ensures,
+      map-id,
       c.count_of.ensures,
       kept w32 c.lag_min-low.result c.lag_min-low.type_inv,
       c.lag_min-low.ensures,

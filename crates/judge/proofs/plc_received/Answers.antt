@@ -1,15 +1,14 @@
 use mir.Syntax.{w32}
 use Rattle.word.proofs.Words.{kept}
-use Rattle.refusal.specs.First.{first_or}
+use borrow.Author.Rules.{rules}
+use Rattle.refusal.proofs.Clear.{run_stops, run_passes}
+use Rattle.decoder.specs.Rows.{state_rows}
 use Rattle.judge.proofs.plc_received.Goals as goal
 
+pub returns-in_err-state_rows : goal.returns-in_err-state_rows
+returns-in_err-state_rows c = run_stops (state_rows c.args.s) _ c.state_rows.ensures c.in_err-state_rows.was c.from_residual.ensures.1
+
 pub returns : goal.returns
-unfolding first_or
 returns c =
     let s = c.args.s in
-    rw (
-      c.state_rows.ensures,
-      c.param_rows.ensures,
-      kept w32 s.fs_khz c.struct_told-1.given.1.1.1.1.1.0.1,
-      kept w32 s.nb_subfr c.struct_told-2-1.given.1.1.1.1.1.1.0.1,
-    )
+    run_passes (state_rows s) _ c.state_rows.ensures c.in_ok-state_rows.was (rw (c.param_rows.ensures, kept w32 s.fs_khz (search rules), kept w32 s.nb_subfr (search rules)))

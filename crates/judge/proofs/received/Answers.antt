@@ -1,14 +1,24 @@
 use mir.Facts.{to_z-of_z}
-use Rattle.refusal.specs.First.{first_or}
+use Rattle.refusal.proofs.Clear.{run_stops, run_passes}
+use Rattle.shape.specs.Shape.{shape}
+use Rattle.decoder.specs.Rows.{coming_rows}
+use Rattle.judge.specs.Rows.{description_rows}
 use Rattle.judge.proofs.received.Goals as goal
 
+pub returns-in_err-coming_rows : goal.returns-in_err-coming_rows
+returns-in_err-coming_rows c =
+    let a = c.args in
+    run_stops (coming_rows a.khz a.nb_subfr a.s) _ (rw (c.coming_rows.ensures, to_z-of_z c.ranges.khz, to_z-of_z c.ranges.nb_subfr)) c.in_err-coming_rows.was c.from_residual.ensures.1
+
+pub returns-in_err-description : goal.returns-in_err-description
+returns-in_err-description c =
+    let a = c.args in
+    run_passes (coming_rows a.khz a.nb_subfr a.s) _ (rw (c.coming_rows.ensures, to_z-of_z c.ranges.khz, to_z-of_z c.ranges.nb_subfr)) c.in_ok-coming_rows.was
+    (run_stops (description_rows (shape a.khz a.nb_subfr) a.q a.c a.lines) _ (rw (c.description.ensures, to_z-of_z c.ranges.khz, to_z-of_z c.ranges.nb_subfr)) c.in_err-description.was c.from_residual-in_err-description.ensures.1)
+
 pub returns : goal.returns
-unfolding first_or
 returns c =
-    rw (
-      c.coming_rows.ensures,
-      c.description_rows.ensures,
-      c.room_rows-rooms.ensures,
-      to_z-of_z c.ranges.khz,
-      to_z-of_z c.ranges.nb_subfr,
-    )
+    let a = c.args in
+    run_passes (coming_rows a.khz a.nb_subfr a.s) _ (rw (c.coming_rows.ensures, to_z-of_z c.ranges.khz, to_z-of_z c.ranges.nb_subfr)) c.in_ok-coming_rows.was
+    (run_passes (description_rows (shape a.khz a.nb_subfr) a.q a.c a.lines) _ (rw (c.description.ensures, to_z-of_z c.ranges.khz, to_z-of_z c.ranges.nb_subfr)) c.in_ok-description.was
+    (rw (c.room_rows.ensures, to_z-of_z c.ranges.khz, to_z-of_z c.ranges.nb_subfr)))

@@ -7,9 +7,7 @@ pub returns : goal.returns
 unfolding signal_row
 returns c =
     rw (
-      c.both.ensures,
       c.is_interpolation.ensures,
-      c.both-ok.ensures,
       c.is_offset.ensures,
       c.is_type.ensures,
       kept w8 _ c.struct_told-1.given.1.0.1,

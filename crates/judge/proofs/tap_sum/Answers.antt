@@ -1,7 +1,10 @@
+use mathlib.Core.Path.{◌≡◌}
+use lib.IntN.{◌+ℤ◌}
 use mir.Syntax.{w32}
+use mir.Val.{to_z, of_z}
 use Rattle.word.proofs.Words.{kept}
 use Rattle.judge.specs.Taps.{tap_sum}
-use Rattle.judge.proofs.Sums.{by-words}
+use Rattle.judge.proofs.Sums.{five, by-words}
 use Rattle.judge.proofs.tap_sum.Goals as goal
 
 pub returns : goal.returns
@@ -12,6 +15,7 @@ returns c =
     let t3 = c.tap-3 in
     let t2 = c.tap-2 in
     let t1 = c.tap in
+    let e : to_z w32 (of_z w32 c.add32-2.result) ≡ t1.result +ℤ t2.result +ℤ t3.result +ℤ t4.result +ℤ t5.result =
     rw (
       kept w32 _ c.add32-2.type_inv,
       c.add32-2.ensures,
@@ -26,10 +30,8 @@ returns c =
       kept w32 _ t3.type_inv,
       kept w32 _ t4.type_inv,
       kept w32 _ t5.type_inv,
-      ← t1.ensures.0,
-      ← t2.ensures.0,
-      ← t3.ensures.0,
-      ← t4.ensures.0,
-      ← t5.ensures.0,
     )
-    (by-words t1.result t2.result t3.result t4.result t5.result t1.ensures.1 t2.ensures.1 t3.ensures.1 t4.ensures.1 t5.ensures.1)
+    (by-words t1.result t2.result t3.result t4.result t5.result t1.ensures.1 t2.ensures.1 t3.ensures.1 t4.ensures.1 t5.ensures.1) in (
+      rw (e, t1.ensures.0, t2.ensures.0, t3.ensures.0, t4.ensures.0, t5.ensures.0),
+      rw e (five t1.result t2.result t3.result t4.result t5.result t1.ensures.1 t2.ensures.1 t3.ensures.1 t4.ensures.1 t5.ensures.1),
+    )

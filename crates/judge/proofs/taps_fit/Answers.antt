@@ -14,7 +14,7 @@ loop-k-init c = (search rules, refl)
 pub loop-k-preserved : goal.loop-k-preserved
 unfolding taps_fit
 loop-k-preserved c =
-    (search rules, rw (add-one, c.both-ok.ensures, c.within.ensures, kept w32 _ c.tap_sum.type_inv, c.tap_sum.ensures, c.loop-k.invariant.1))
+    (search rules, rw (add-one, c.within-ok.ensures, kept w32 _ c.tap_sum.type_inv, c.tap_sum.ensures.0, c.loop-k.invariant.1))
 
 pub returns : goal.returns
 returns c = rw (c.loop-k.invariant.1, le_antisymm c.loop-k.invariant.0 c.loop-k-test.false)

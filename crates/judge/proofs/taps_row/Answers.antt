@@ -4,6 +4,7 @@ use mir.Val.{to_z, of_z}
 use mir.Facts.{to_z-of_z}
 use Rattle.word.proofs.Words.{kept}
 use Rattle.shape.proofs.Shapes.{count_le}
+use Rattle.decoder.proofs.Between.{only-or}
 use Rattle.judge.specs.Rows.{taps_row}
 use Rattle.judge.proofs.taps_row.Goals as goal
 
@@ -14,10 +15,9 @@ pub returns : goal.returns
 unfolding taps_row
 returns c =
     rw (
-      c.both.ensures,
       c.within.ensures,
       kept w32 _ c.struct_told-1.given.1.1.1.0.1,
-      c.only_if-ok.ensures,
+      only-or c.is_voiced.result c.taps_fit.result,
       c.is_voiced.ensures,
       c.taps_fit.ensures,
       c.count_of.ensures,

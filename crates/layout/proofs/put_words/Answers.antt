@@ -1,19 +1,14 @@
 use mathlib.Core.Path.{◌≡◌, refl, sym, ap, ◌∙◌}
 use mathlib.Core.List.{[], ◌∷◌, ◌++◌}
 use native.Mathlib.Omega.{arith}
-use borrow.Author.Rules.{rules}
 use lib.ListN.{length}
 use mir.Syntax.{w32}
 use Rattle.word.proofs.Words.{kept}
 use Rattle.sigproc.specs.Place.{put_at}
 use Rattle.layout.specs.Layout.{numbers, last_numbers, state_words}
 use Rattle.layout.proofs.Pieces.{begun, next}
-use Rattle.layout.proofs.put_words.Goals.{After-last_numbers-last, After-numbers-numbers, Start}
+use Rattle.layout.proofs.put_words.Goals.{After-last_numbers-last, After-numbers-numbers}
 use Rattle.layout.proofs.put_words.Goals as goal
-
--- the lengths of the arrays
-sizes : (c : Start) → let s = c.args.s in (length s.exc_q14 ≡ 320) × (length s.s_lpc_q14_buf ≡ 16) × (length s.s_cng.cng_exc_buf_q14 ≡ 320) × (length s.s_cng.cng_synth_state ≡ 16)
-sizes c = (search rules, search rules, search rules, search rules)
 
 twenty : (c : After-numbers-numbers) → length c.numbers-numbers.result ≡ 20
 unfolding numbers
@@ -23,43 +18,40 @@ five : (c : After-last_numbers-last) → length c.last_numbers-last.result ≡ 5
 unfolding last_numbers
 five c = ap length c.last_numbers-last.ensures
 
-pub slice_bounds-copy32_at-end-4 : goal.slice_bounds-copy32_at-end-4
-slice_bounds-copy32_at-end-4 c = sym (twenty (goal.at.slice_bounds-copy32_at-end-4 c).After-numbers-numbers)
+pub slice_bounds-copy_at-end-4 : goal.slice_bounds-copy_at-end-4
+slice_bounds-copy_at-end-4 c = sym (twenty (goal.at.slice_bounds-copy_at-end-4 c).After-numbers-numbers)
 
-pub copy32_at-requires-4 : goal.copy32_at-requires-4
-copy32_at-requires-4 c =
-    let z = sizes (goal.at.copy32_at-requires-4 c).Start in
-    omega (arith, c.copy32_at.auto, c.copy32_at-2.auto, c.copy32_at-3.auto, c.requires, twenty (goal.at.copy32_at-requires-4 c).After-numbers-numbers)
+pub copy_at-requires-4 : goal.copy_at-requires-4
+copy_at-requires-4 c =
+    omega (arith, c.copy_at.auto, c.copy_at-2.auto, c.copy_at-3.auto, c.requires, twenty (goal.at.copy_at-requires-4 c).After-numbers-numbers)
 
-pub copy32_at-requires-6 : goal.copy32_at-requires-6
-copy32_at-requires-6 c =
-    let z = sizes (goal.at.copy32_at-requires-6 c).Start in
-    omega (arith, c.copy32_at.auto, c.copy32_at-2.auto, c.copy32_at-3.auto, c.copy32_at-4.auto, c.copy32_at-5.auto, c.requires, twenty (goal.at.copy32_at-requires-6 c).After-numbers-numbers)
+pub copy_at-requires-6 : goal.copy_at-requires-6
+copy_at-requires-6 c =
+    omega (arith, c.copy_at.auto, c.copy_at-2.auto, c.copy_at-3.auto, c.copy_at-4.auto, c.copy_at-5.auto, c.requires, twenty (goal.at.copy_at-requires-6 c).After-numbers-numbers)
 
-pub slice_bounds-copy32_at-end-7 : goal.slice_bounds-copy32_at-end-7
-slice_bounds-copy32_at-end-7 c = sym (five (goal.at.slice_bounds-copy32_at-end-7 c).After-last_numbers-last)
+pub slice_bounds-copy_at-end-7 : goal.slice_bounds-copy_at-end-7
+slice_bounds-copy_at-end-7 c = sym (five (goal.at.slice_bounds-copy_at-end-7 c).After-last_numbers-last)
 
-pub copy32_at-requires-7 : goal.copy32_at-requires-7
-copy32_at-requires-7 c =
-    let z = sizes (goal.at.copy32_at-requires-7 c).Start in
-    omega (arith, c.copy32_at.auto, c.copy32_at-2.auto, c.copy32_at-3.auto, c.copy32_at-4.auto, c.copy32_at-5.auto, c.copy32_at-6.auto, c.requires, twenty (goal.at.copy32_at-requires-7 c).After-numbers-numbers, five (goal.at.copy32_at-requires-7 c).After-last_numbers-last)
+pub copy_at-requires-7 : goal.copy_at-requires-7
+copy_at-requires-7 c =
+    omega (arith, c.copy_at.auto, c.copy_at-2.auto, c.copy_at-3.auto, c.copy_at-4.auto, c.copy_at-5.auto, c.copy_at-6.auto, c.requires, twenty (goal.at.copy_at-requires-7 c).After-numbers-numbers, five (goal.at.copy_at-requires-7 c).After-last_numbers-last)
 
 pub returns : goal.returns
 unfolding state_words
 returns c =
     let a = c.args in
-    let s = a.s in
+    let s = a.s.now in
     let h = s.s_cng in
-    let z = sizes (goal.at.returns c).Start in
-    let f1 = begun _ 1 refl c.copy32_at.ensures in
-    let f2 = next s.exc_q14 320 321 f1 z.0 refl c.copy32_at-2.ensures in
-    let f3 = next s.s_lpc_q14_buf 16 337 f2 z.1 refl c.copy32_at-3.ensures in
-    let f4 = next c.numbers-numbers.result 20 357 f3 (twenty (goal.at.returns c).After-numbers-numbers) refl c.copy32_at-4.ensures in
-    let f5 = next h.cng_exc_buf_q14 320 677 f4 z.2 refl c.copy32_at-5.ensures in
-    let f6 = next h.cng_synth_state 16 693 f5 z.3 refl c.copy32_at-6.ensures in
-    let f7 = next c.last_numbers-last.result 5 698 f6 (five (goal.at.returns c).After-last_numbers-last) refl c.copy32_at-7.ensures in
+    let l = c.told-s in
+    let f1 = begun _ 1 refl c.copy_at.ensures in
+    let f2 = next s.exc_q14 320 321 f1 l.0 refl c.copy_at-2.ensures in
+    let f3 = next s.s_lpc_q14_buf 16 337 f2 l.1 refl c.copy_at-3.ensures in
+    let f4 = next c.numbers-numbers.result 20 357 f3 (twenty (goal.at.returns c).After-numbers-numbers) refl c.copy_at-4.ensures in
+    let f5 = next h.cng_exc_buf_q14 320 677 f4 c.copy_at-arg-8-1.given refl c.copy_at-5.ensures in
+    let f6 = next h.cng_synth_state 16 693 f5 c.copy_at-arg-10-1.given refl c.copy_at-6.ensures in
+    let f7 = next c.last_numbers-last.result 5 698 f6 (five (goal.at.returns c).After-last_numbers-last) refl c.copy_at-7.ensures in
     f7.stored
     ∙ λ i.
     put_at a.words.now 0
-    ((kept w32 s.prev_gain_q16 c.struct_told-1.given.0.1 i ∷ []) ++ s.exc_q14 ++ s.s_lpc_q14_buf ++ c.numbers-numbers.ensures i ++ h.cng_exc_buf_q14 ++ h.cng_synth_state
+    ((kept w32 s.prev_gain_q16 c.gain-1.given i ∷ []) ++ s.exc_q14 ++ s.s_lpc_q14_buf ++ c.numbers-numbers.ensures i ++ h.cng_exc_buf_q14 ++ h.cng_synth_state
     ++ c.last_numbers-last.ensures i)

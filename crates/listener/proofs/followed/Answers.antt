@@ -1,6 +1,6 @@
 use Prim.Native.Nat.{suc, ◌+◌, ◌<◌}
-use mathlib.Core.Path.{refl, ap, ◌∙◌}
-use mathlib.Core.Bool.{not, cond, ◌&&◌}
+use mathlib.Core.Path.{◌≡◌, refl, ap, ◌∙◌}
+use mathlib.Core.Bool.{Bool, true, false, not, cond, ◌&&◌}
 use native.Mathlib.Nat.{le_antisymm}
 use native.Mathlib.Numerals.{add-one}
 use native.Mathlib.Omega.{arith}
@@ -14,7 +14,7 @@ use Rattle.listener.specs.Link.{turned, good_at}
 use Rattle.listener.specs.Heard.{Heard, as_received, as_concealed, as_squelched, losses_at, silent, heard_by, count_to, counts_of}
 use Rattle.listener.proofs.Counting.{losses_le, count_le}
 use borrow.Author.Rules.{rules}
-use Rattle.listener.proofs.followed.Goals.{In-loop-i}
+use Rattle.listener.proofs.followed.Goals.{In-loop-i, then-not-good, else-not-good, then-not-good-2, else-not-good-2}
 use Rattle.listener.proofs.followed.Goals as goal
 
 -- a count of the frames before a turn has room for one more
@@ -48,15 +48,26 @@ counted-squelched-requires c = omega (arith, c.loop-i.invariant.6, room c.before
 pub row_after-losses-requires : goal.row_after-losses-requires
 row_after-losses-requires c = losses_room c.before.before.before.before.before.before
 
+-- a lost frame that is heard so, and one that is received
+lost_then : (good so v : Bool) → good ≡ false → v ≡ so → v ≡ not good && so
+lost_then good so v e h = rw e h
+
+lost_else : (good so v : Bool) → good ≡ true → v ≡ not good → v ≡ not good && so
+lost_else good so v e h = h ∙ rw e refl
+
 pub loop-i-preserved : goal.loop-i-preserved
 unfolding drawn good_at losses_at count_to heard_by
 loop-i-preserved c =
     let inv = c.loop-i.invariant in
     let k = c.args.k in
     let x = kept w32 c.silk_rand-x.result c.silk_rand-x.type_inv ∙ c.silk_rand-x.ensures ∙ ap rand inv.1 in
+    let hid : c.if-not-good.counted ≡ not c.loop-i.good && not c.silent-quiet.result =
+    elim c.if-not-good.branch [ then-not-good w ↦ lost_then _ _ _ w.if-not-good.true w.counted-is | else-not-good w ↦ lost_else _ _ _ w.if-not-good.false w.counted-is ] in
+    let mut : c.if-not-good-2.counted ≡ not c.loop-i.good && c.silent-quiet.result =
+    elim c.if-not-good-2.branch [ then-not-good-2 w ↦ lost_then _ _ _ w.if-not-good-2.true w.counted-is | else-not-good-2 w ↦ lost_else _ _ _ w.if-not-good-2.false w.counted-is ] in
     let quiet = c.silent-quiet.ensures ∙ ap (silent c.args.squelch) inv.3 in
-    let hidden = c.both.ensures ∙ λ i. not (inv.2 i) && not (quiet i) in
-    let mute = c.both-in-loop-i.ensures ∙ λ i. not (inv.2 i) && quiet i in (
+    let hidden = hid ∙ λ i. not (inv.2 i) && not (quiet i) in
+    let mute = mut ∙ λ i. not (inv.2 i) && quiet i in (
       search rules,
       rw add-one x,
       rw add-one (c.turned-good.ensures ∙ λ i. turned k (unsigned (x i)) (inv.2 i)),

@@ -16,7 +16,6 @@ unfolding received_of
 returns c =
     let x = to_z-of_z c.ranges.x in
     let r = to_z-of_z c.ranges.rate in
-    let eb = c.blank-b.ensures in
     let eq = c.params_of.ensures ∙ λ i. params_of (x i) in
     let en = c.control_of-c.ensures ∙ λ i. control_of (x i) (rate_of (r i)) in
     let eo = c.rows_of-rows.ensures ∙ λ i. rows_of (x i) in
@@ -24,5 +23,5 @@ returns c =
     let ep = c.pulses_of-pulses.ensures ∙ λ i. pulses_of (x i) in
     let f = received_of c.args.rate c.args.x in
     c.put_received.ensures
-    ∙ (λ i. with_bytes (eb i) 0 (record_bytes (received (eq i) (en i) (eo i) (el i) (ep i))))
+    ∙ (λ i. with_bytes (replicate 817 0) 0 (record_bytes (received (eq i) (en i) (eo i) (el i) (ep i))))
     ∙ with-whole (replicate 817 0) (record_bytes f) (omega (arith, length_record f))

@@ -19,4 +19,4 @@ unfolding record_of record_bytes
 returns c =
     let x = to_z-of_z c.ranges.x in
     let e = sym c.if-is_received.false ∙ c.is_received.ensures ∙ λ i. is_received (x i) in
-    c.blank.ensures ∙ ap (λ (b : Bool). record_bytes (cond b (received_of c.args.rate c.args.x) lost)) e
+    ap (λ (b : Bool). record_bytes (cond b (received_of c.args.rate c.args.x) lost)) e

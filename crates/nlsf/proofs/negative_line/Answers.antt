@@ -1,22 +1,25 @@
 use mathlib.Core.Path.{refl}
 use native.Mathlib.Nat.{le_antisymm}
 use native.Mathlib.Numerals.{add-one}
-use borrow.Author.Rules.{rules}
 use lib.IntN.{pos}
-use lib.ListN.{get_or}
+use lib.ListN.{get_or, take}
+use lib.Seq.{length-take-le, get_or-take}
 use mir.Syntax.{w16}
 use Rattle.word.proofs.Words.{kept}
 use Rattle.nlsf.specs.Lines.{negative_line}
 use Rattle.nlsf.proofs.negative_line.Goals as goal
 
-pub loop-k-init : goal.loop-k-init
+pub loop-line-init : goal.loop-line-init
 unfolding negative_line
-loop-k-init c = (search rules, refl)
+loop-line-init c = refl
 
-pub loop-k-preserved : goal.loop-k-preserved
+pub loop-line-preserved : goal.loop-line-preserved
 unfolding negative_line
-loop-k-preserved c =
-    (search rules, rw (add-one, c.loop-k.invariant.1, kept w16 (get_or c.args.nlsf.now c.loop-k.k (pos 0)) c.found-1.given))
+loop-line-preserved c =
+    let s = c.args in
+    let k = c.loop-line.line-index in
+    let h = rw (length-take-le s.d s.nlsf.now c.requires) at c.loop-line-test.true in
+    rw (add-one, c.loop-line.invariant, kept w16 (get_or (take s.d s.nlsf.now) k (pos 0)) c.found-1.given, get_or-take s.d s.nlsf.now k (pos 0) h) refl
 
 pub returns : goal.returns
-returns c = rw (c.loop-k.invariant.1, le_antisymm c.loop-k.invariant.0 c.loop-k-test.false)
+returns c = rw (c.loop-line.invariant, le_antisymm c.loop-line.auto.line-index-end c.loop-line-test.false, length-take-le c.args.d c.args.nlsf.now c.requires) refl

@@ -14,20 +14,18 @@ use Rattle.nlsf.proofs.rounded.Invariants.{round}
 use Rattle.nlsf.proofs.rounded.Goals as goal
 
 pub loop-k-init : goal.loop-k-init
-loop-k-init c = (search rules, search rules, search rules, refl)
+loop-k-init c = (refl, refl)
 
 pub loop-k-preserved : goal.loop-k-preserved
 loop-k-preserved c =
     let s = c.args in
     let x = get_or s.a.now c.loop-k.k (pos 0) in (
       search rules,
-      search rules,
-      search rules,
-      rw (got w16 c.low16.type_inv c.low16.ensures, got w32 c.in_q12.type_inv c.in_q12.ensures, kept w32 x c.in_q12-arg-1.given, c.loop-k.invariant.3, add-one)
-          (take_more round s.a.now s.a_q12.now c.loop-k.k (omega arith) (omega arith)),
+      rw (got w16 c.low16.type_inv c.low16.ensures, got w32 c.in_q12.type_inv c.in_q12.ensures, kept w32 x c.in_q12-arg-1.given, c.loop-k.invariant.1, add-one)
+          (take_more round s.a.now s.a_q12.now c.loop-k.k c.loop-k-test.true (omega arith)),
     )
 
 pub returns : goal.returns
 unfolding rounded
 returns c =
-    rw (c.loop-k.invariant.3, le_antisymm c.loop-k.invariant.0 c.loop-k-test.false, c.loop-k.invariant.1) (filled round c.args.a.now c.args.a_q12.now c.requires)
+    rw (c.loop-k.invariant.1, le_antisymm c.loop-k.auto.k-end c.loop-k-test.false) (filled round c.args.a.now c.args.a_q12.now c.requires)

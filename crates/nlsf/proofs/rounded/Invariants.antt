@@ -1,4 +1,3 @@
-use Prim.Native.Nat.{◌-◌, ◌≤◌}
 use mathlib.Core.Path.{◌≡◌}
 use mathlib.Core.List.{◌++◌, map}
 use lib.IntN.{ℤ}
@@ -12,7 +11,4 @@ round x = wrap16 (in_q12 x)
 
 abbrev pub invariant-loop-k : goal.invariant-loop-k
 invariant-loop-k l =
-    (l.k ≤ l.k-end) × (l.k-end ≡ length l.a) × (length l.a_q12 ≡ length l.initial.a_q12) × (l.a_q12 ≡ map round (take l.k l.a) ++ drop l.k l.initial.a_q12)
-
-abbrev pub decreases-loop-k : goal.decreases-loop-k
-decreases-loop-k l = l.k-end - l.k
+    (length l.a_q12 ≡ length l.initial.a_q12) × (l.a_q12 ≡ map round (take l.k l.a) ++ drop l.k l.initial.a_q12)

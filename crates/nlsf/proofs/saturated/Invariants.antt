@@ -1,4 +1,4 @@
-use Prim.Native.Nat.{◌-◌, ◌≤◌, ◌^◌}
+use Prim.Native.Nat.{◌^◌}
 use mathlib.Core.Path.{◌≡◌}
 use mathlib.Core.List.{◌++◌, map}
 use lib.IntN.{ℤ, pos, ◌*ℤ◌}
@@ -15,8 +15,5 @@ back x = near x *ℤ pos (2 ^ 5)
 
 abbrev pub invariant-loop-k : goal.invariant-loop-k
 invariant-loop-k l =
-    (l.k ≤ l.k-end) × (l.k-end ≡ length l.initial.a) × (length l.a_q12 ≡ length l.initial.a_q12) × (length l.a ≡ length l.initial.a)
+    (length l.a_q12 ≡ length l.initial.a_q12) × (length l.a ≡ length l.initial.a)
     × (l.a_q12 ≡ map near (take l.k l.initial.a) ++ drop l.k l.initial.a_q12) × (l.a ≡ map back (take l.k l.initial.a) ++ drop l.k l.initial.a)
-
-abbrev pub decreases-loop-k : goal.decreases-loop-k
-decreases-loop-k l = l.k-end - l.k

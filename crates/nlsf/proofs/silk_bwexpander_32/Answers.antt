@@ -18,28 +18,26 @@ use Rattle.nlsf.proofs.Parts.{rest_at}
 use Rattle.nlsf.proofs.silk_bwexpander_32.Invariants.{expanded}
 use Rattle.nlsf.proofs.silk_bwexpander_32.Goals as goal
 
-pub loop-i-init : goal.loop-i-init
+pub loop-x-init : goal.loop-x-init
 unfolding tabulate factor32
-loop-i-init c = (search rules, search rules, search rules, refl, refl)
+loop-x-init c = (refl, refl, refl)
 
-pub loop-i-preserved : goal.loop-i-preserved
+pub loop-x-preserved : goal.loop-x-preserved
 unfolding factor32
-loop-i-preserved c =
+loop-x-preserved c =
     let a = c.args.ar.now in
-    let i = c.loop-i.i in
+    let i = c.loop-x.x-index in
     let f = expanded (to_z w32 (of_z w32 c.args.chirp)) a in
-    let n : i < length a = search rules in
+    let n : i < length a = c.loop-x-test.true in
     let e : c.silk_smulww.result ≡ f i =
-    rw (c.silk_smulww.ensures, kept w32 (get_or c.loop-i.ar i (pos 0)) c.silk_smulww-arg-1.given, c.loop-i.invariant.3, c.loop-i.invariant.4, rest_at (tabulate i f) a i (length-tabulate i f) n) in (
+    rw (c.silk_smulww.ensures, kept w32 (get_or c.loop-x.ar i (pos 0)) c.silk_smulww-arg-1.given, c.loop-x.invariant.1, c.loop-x.invariant.2, rest_at (tabulate i f) a i (length-tabulate i f) n) in (
       search rules,
-      search rules,
-      search rules,
-      rw (got w32 c.next_factor-f.type_inv c.next_factor-f.ensures, c.loop-i.invariant.3, add-one),
-      rw (got w32 c.silk_smulww.type_inv e, c.loop-i.invariant.4, add-one) (tabulate-more a f i n),
+      rw (got w32 c.next_factor-f.type_inv c.next_factor-f.ensures, c.loop-x.invariant.1, add-one),
+      rw (got w32 c.silk_smulww.type_inv e, c.loop-x.invariant.2, add-one) (tabulate-more a f i n),
     )
 
 pub returns : goal.returns
 unfolding bwexpander32
 returns c =
     let a = c.args.ar.now in
-    rw (c.loop-i.invariant.4, le_antisymm c.loop-i.invariant.0 c.loop-i-test.false, c.loop-i.invariant.1, to_z-of_z c.ranges.chirp, drop-length a) (append-nil _)
+    rw (c.loop-x.invariant.2, le_antisymm c.loop-x.auto.x-index-end c.loop-x-test.false, to_z-of_z c.ranges.chirp, drop-length a) (append-nil _)

@@ -1,4 +1,4 @@
-use Prim.Native.Nat.{ℕ, ◌-◌, ◌≤◌}
+use Prim.Native.Nat.{ℕ}
 use mathlib.Core.Path.{◌≡◌}
 use mathlib.Core.List.{List, ◌++◌}
 use lib.IntN.{ℤ, pos}
@@ -12,10 +12,6 @@ use Rattle.nlsf.proofs.silk_bwexpander_32.Given as goal
 abbrev pub expanded : ℤ → List ℤ → ℕ → ℤ
 expanded chirp a j = smulww (factor32 chirp j) (get_or a j (pos 0))
 
-abbrev pub invariant-loop-i : goal.invariant-loop-i
-invariant-loop-i l =
-    (l.i ≤ l.i-end) × (l.i-end ≡ length l.initial.ar) × (length l.ar ≡ length l.initial.ar)
-    × (l.f ≡ factor32 l.chirp l.i) × (l.ar ≡ tabulate l.i (expanded l.chirp l.initial.ar) ++ drop l.i l.initial.ar)
-
-abbrev pub decreases-loop-i : goal.decreases-loop-i
-decreases-loop-i l = l.i-end - l.i
+abbrev pub invariant-loop-x : goal.invariant-loop-x
+invariant-loop-x l =
+    (length l.ar ≡ length l.initial.ar) × (l.f ≡ factor32 l.chirp l.x-index) × (l.ar ≡ tabulate l.x-index (expanded l.chirp l.initial.ar) ++ drop l.x-index l.initial.ar)

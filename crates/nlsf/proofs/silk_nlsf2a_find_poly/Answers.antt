@@ -33,7 +33,7 @@ loop-k-init c =
       search rules,
       search rules,
       search rules,
-      rw (c.zeros9-p.ensures, got w32 c.neg32.type_inv c.neg32.ensures, kept w32 (get_or s.c.now s.s (pos 0)) c.neg32-arg-1.given),
+      rw (got w32 c.neg32.type_inv c.neg32.ensures, kept w32 (get_or s.c.now s.s (pos 0)) c.neg32-arg-1.given),
     )
 
 pub slice_bounds-p-end : goal.slice_bounds-p-end

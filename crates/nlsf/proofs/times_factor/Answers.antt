@@ -1,4 +1,4 @@
-use Prim.Native.Nat.{◌+◌, ◌-◌}
+use Prim.Native.Nat.{◌-◌}
 use mathlib.Core.Path.{◌≡◌, refl, ◌∙◌}
 use mathlib.Core.List.{◌++◌}
 use native.Mathlib.Omega.{arith}
@@ -17,20 +17,19 @@ use Rattle.nlsf.proofs.times_factor.Goals as goal
 
 pub loop-n-init : goal.loop-n-init
 loop-n-init c =
-    (search rules, search rules, refl, back_start (times_factor (to_z w32 (of_z w32 c.args.f)) c.args.p.now) c.args.p.now (search rules))
+    (c.requires, search rules, refl, back_start (times_factor (to_z w32 (of_z w32 c.args.f)) c.args.p.now) c.args.p.now)
 
 pub loop-n-preserved : goal.loop-n-preserved
 loop-n-preserved c =
-    let s = c.args in
-    let p = s.p.now in
+    let p = c.args.p.now in
     let n = c.loop-n.n in
-    let f = to_z w32 (of_z w32 s.f) in
-    let j : n - 1 + 1 ≡ n = omega (arith, c.loop-n.invariant.0) in (
+    let f = to_z w32 (of_z w32 c.args.f) in
+    let t = drop n (tabulate (length p) (times_factor f p)) in (
       search rules,
       search rules,
       search rules,
-      rw (got w32 c.poly_term-v.type_inv c.poly_term-v.ensures, c.loop-n.invariant.3, term_front f p (drop (n + 1) (tabulate (length p) (times_factor f p))) n (n + 1) (omega arith) (omega (arith, c.loop-n.invariant.1)), j)
-          (back_more (times_factor f p) p n c.loop-n.invariant.1),
+      rw (got w32 c.poly_term.type_inv c.poly_term.ensures, c.loop-n.invariant.3, term_front f p t (n - 1) n (omega arith) c.loop-n.invariant.1)
+          (back_more (times_factor f p) p n (n - 1) (omega arith) (omega arith)),
     )
 
 pub returns : goal.returns
@@ -38,8 +37,8 @@ unfolding times_factor
 returns c =
     let p = c.args.p.now in
     let f = c.args.f in
-    let n : c.loop-n.n ≡ 1 = omega (arith, c.loop-n.invariant.0, c.loop-n-test.false) in
+    let n : c.loop-n.n ≡ 2 = omega arith in
     let t = times_factor f p in
     let u : c.loop-n.p ≡ take 2 p ++ drop 2 (tabulate (length p) t) = rw (n, to_z-of_z c.ranges.f) at c.loop-n.invariant.3 in
     rw (got w32 c.sub32.type_inv c.sub32.ensures, kept w32 (get_or c.loop-n.p 1 (pos 0)) c.sub32-arg-1.given, u, front_at p (drop 2 (tabulate (length p) t)) 1 2 (omega arith) c.requires, to_z-of_z c.ranges.f)
-    (back_more t p 1 c.requires ∙ back_ends t p refl (omega (arith, c.requires)))
+    (back_more t p 2 1 refl c.requires ∙ back_ends t p refl (omega (arith, c.requires)))

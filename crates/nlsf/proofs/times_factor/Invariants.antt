@@ -1,4 +1,4 @@
-use Prim.Native.Nat.{◌+◌, ◌<◌, ◌≤◌}
+use Prim.Native.Nat.{◌≤◌}
 use mathlib.Core.Path.{◌≡◌}
 use mathlib.Core.List.{◌++◌}
 use lib.ListN.{length, take, drop}
@@ -6,10 +6,8 @@ use Rattle.word.specs.Tabulate.{tabulate}
 use Rattle.nlsf.specs.Lines.{times_factor}
 use Rattle.nlsf.proofs.times_factor.Given as goal
 
+-- the turn that begins is at place n - 1
 abbrev pub invariant-loop-n : goal.invariant-loop-n
 invariant-loop-n l =
-    (1 ≤ l.n) × (l.n < length l.initial.p) × (length l.p ≡ length l.initial.p)
-    × (l.p ≡ take (l.n + 1) l.initial.p ++ drop (l.n + 1) (tabulate (length l.initial.p) (times_factor l.f l.initial.p)))
-
-abbrev pub decreases-loop-n : goal.decreases-loop-n
-decreases-loop-n l = l.n
+    (2 ≤ l.n) × (l.n ≤ length l.initial.p) × (length l.p ≡ length l.initial.p)
+    × (l.p ≡ take l.n l.initial.p ++ drop l.n (tabulate (length l.initial.p) (times_factor l.f l.initial.p)))

@@ -19,7 +19,7 @@ returns c =
     let l = c.lines_in-lines.ensures in
     let p = c.pulses_in-pulses.ensures in
     let q = c.silence-xq.ensures in
-    let a = c.silk_decode_frame-a.ensures.0 ∙ λ i. frame_answer s (frame_call (h i) (n i) (f i) (k i) (r i) (l i) (p i) (q i)) in
-    let o = c.silk_decode_frame-a.ensures.1 ∙ λ i. frame_output s (frame_call (h i) (n i) (f i) (k i) (r i) (l i) (p i) (q i)) in
+    let a = c.silk_decode_frame-answer.ensures.0 ∙ λ i. frame_answer s (frame_call (h i) (n i) (f i) (k i) (r i) (l i) (p i) (q i)) in
+    let o = c.silk_decode_frame-answer.ensures.1 ∙ λ i. frame_output s (frame_call (h i) (n i) (f i) (k i) (r i) (l i) (p i) (q i)) in
     let e = c.samples_bytes-bytes.ensures ∙ λ i. packed w16 (o i) 320 in
-    λ i. record { refusal = (a i).refusal; state = (a i).state; bytes = e i }
+    λ i. record { answer = a i; bytes = e i }

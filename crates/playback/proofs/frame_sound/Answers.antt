@@ -5,10 +5,11 @@ use Rattle.word.proofs.Lists.{length-tabulate}
 use mir.Facts.{to_z-of_z}
 use Rattle.decoder.specs.declared.Frame.TheVariants.{Received}
 use Rattle.decode_frame.specs.Call.{frame_call}
-use Rattle.decode_frame.specs.Answer.{frame_answer, frame_output}
+use Rattle.decode_frame.specs.Answer.{frame_answer, frame_output, state_left}
 use Rattle.record.specs.Record.{pulses_in}
 use Rattle.record.specs.Recorded.{lost, recorded_in}
 use Rattle.playback.specs.Playback.{call_of, sound_of, silence}
+use Rattle.playback.proofs.Answers.{left}
 use borrow.Author.Rules.{rules}
 use Rattle.playback.proofs.frame_sound.Goals as goal
 
@@ -25,14 +26,8 @@ slice_bounds-received_frame-end c =
     let n : length c.pulses_in-pulses.result ≡ 320 = rw c.pulses_in-pulses.ensures (length-tabulate 320 _) in
     search rules
 
-pub slice_bounds-received_frame-end-2 : goal.slice_bounds-received_frame-end-2
-unfolding silence
-slice_bounds-received_frame-end-2 c =
-    let n : length c.silence-samples.result ≡ 320 = ap length c.silence-samples.ensures in
-    search rules
-
 pub returns : goal.returns
-unfolding call_of sound_of recorded_in
+unfolding call_of sound_of recorded_in silence
 returns c =
     let r = to_z-of_z c.ranges.rate in
     let n = to_z-of_z c.ranges.subframes in
@@ -41,7 +36,6 @@ returns c =
     let w = c.rows_in-rows.ensures in
     let l = c.lines_in-lines.ensures in
     let p = c.pulses_in-pulses.ensures in
-    let z = c.silence-samples.ensures in
-    let a = c.received_frame-a.ensures.0 ∙ λ i. frame_answer c.args.s (frame_call (r i) (n i) (Received (q i)) (k i) (w i) (l i) (p i) (z i)) in
-    let o = c.received_frame-a.ensures.1 ∙ λ i. frame_output c.args.s (frame_call (r i) (n i) (Received (q i)) (k i) (w i) (l i) (p i) (z i)) in
-    rw (eq-eqb _ _ c.if-b-ne1.false) (λ i. record { state = (a i).state; samples = o i })
+    let a = c.state_left-state.ensures ∙ ap (state_left c.args.s) (c.received_frame-answer.ensures.0 ∙ λ i. frame_answer c.args.s (frame_call (r i) (n i) (Received (q i)) (k i) (w i) (l i) (p i) silence)) ∙ left c.args.s _ in
+    let o = c.received_frame-answer.ensures.1 ∙ λ i. frame_output c.args.s (frame_call (r i) (n i) (Received (q i)) (k i) (w i) (l i) (p i) silence) in
+    rw (eq-eqb _ _ c.if-b-ne1.false) (λ i. record { state = a i; samples = o i })

@@ -1,14 +1,11 @@
-use Prim.Native.Nat.{◌*◌, ◌-◌, ◌≤◌}
+use Prim.Native.Nat.{◌≤◌}
 use mathlib.Core.Path.{◌≡◌}
 use lib.ListN.{length}
 use Rattle.shape.specs.Shape.{shape, frame_length}
 use Rattle.playback.proofs.Frames.{Played}
 use Rattle.playback.proofs.play_frames.Given as goal
 
-abbrev pub invariant-loop-k : goal.invariant-loop-k
-invariant-loop-k l =
-    (l.k ≤ l.n) × (l.at ≤ 320 * l.k) × (length l.output ≡ length l.initial.output) × (l.size ≡ frame_length (shape l.rate l.subframes)) × (l.size ≤ 320)
-    × Played l.rate l.subframes l.initial.state l.bytes l.records l.n l.initial.output l.output l.state l.at l.k
-
-abbrev pub decreases-loop-k : goal.decreases-loop-k
-decreases-loop-k l = l.n - l.k
+abbrev pub invariant-loop-i : goal.invariant-loop-i
+invariant-loop-i l =
+    (length l.output ≡ length l.initial.output) × (l.size ≡ frame_length (shape l.rate l.subframes)) × (l.size ≤ 320)
+    × Played l.rate l.subframes l.initial.state l.bytes l.records l.initial.output l.output l.state l.at l.i-index

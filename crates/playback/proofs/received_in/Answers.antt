@@ -1,33 +1,34 @@
-use Prim.Native.Nat.{◌-◌}
+use Prim.Native.Nat.{ℕ, ◌+◌}
+use mathlib.Core.Path.{◌≡◌, refl, ap, ◌∙◌}
+use mathlib.Core.List.{List, map}
 use native.Mathlib.Omega.{arith}
-use native.Mathlib.Nat.{le_antisymm}
-use Rattle.recording.proofs.Back.{last_none, last_more, last_all}
+use native.Mathlib.Numerals.{add-one}
+use lib.ListN.{drop, drop_of_length-le}
+use lib.Seq.{drop-cons}
+use Rattle.recording.specs.Frames.{recorded_at}
 use Rattle.playback.specs.Playback.{received_in}
-use borrow.Author.Rules.{rules}
 use Rattle.playback.proofs.received_in.Goals as goal
 
-pub loop-k-init : goal.loop-k-init
-unfolding received_in
-loop-k-init c =
-    (search rules, search rules, rw (last_none c.args.records.now c.args.n c.requires.0))
-
 pub received_one-count-requires : goal.received_one-count-requires
-received_one-count-requires c =
-    (c.wide8.ensures.1, rw c.wide8.ensures.0 (c.requires.1 (c.args.n - 1 - c.loop-k.k)))
+received_one-count-requires c = c.requires c.loop-i.i-index
 
-pub overflow_add-count : goal.overflow_add-count
-overflow_add-count c = let h = c.received_one-count.ensures.1 in search rules
-
-pub loop-k-preserved : goal.loop-k-preserved
+pub loop-i-preserved : goal.loop-i-preserved
 unfolding received_in
-loop-k-preserved c = (
-  search rules,
-  omega (arith, c.received_one-count.ensures.1, c.loop-k.invariant.1),
-  rw (last_more c.args.records.now c.args.n c.requires.0 c.loop-k.k (search rules), c.received_one-count.ensures.0, c.wide8.ensures.0, c.loop-k.invariant.2),
-)
+loop-i-preserved c =
+    let f = recorded_at c.args.bytes.now in
+    let r = c.args.records.now in
+    let k = c.loop-i.i-index in
+    let one = c.received_one-count.ensures in
+    let e : received_in (map f (drop k r)) ≡ c.received_one-count.result + received_in (map f (drop (k + 1) r)) =
+    ap (λ (ks : List ℕ). received_in (map f ks)) (drop-cons r k 0 c.loop-i-test.true) ∙ rw (one.0, add-one) refl in
+    let h = c.loop-i.invariant in
+    (omega (arith, h.0, one.1), h.1 ∙ ap (λ (n : ℕ). c.loop-i.count + n) e ∙ omega arith)
 
 pub returns : goal.returns
-returns c = (
-  rw (c.loop-k.invariant.2, last_all c.args.records.now c.args.n c.requires.0 c.loop-k.k (le_antisymm c.loop-k.invariant.0 c.loop-k-test.false)),
-  omega (arith, c.loop-k.invariant.0, c.loop-k.invariant.1),
-)
+unfolding received_in
+returns c =
+    let h = c.loop-i.invariant in
+    let f = recorded_at c.args.bytes.now in
+    let z : received_in (map f (drop c.loop-i.i-index c.args.records.now)) ≡ 0 = ap (λ (ks : List ℕ). received_in (map f ks)) (drop_of_length-le c.args.records.now {i = c.loop-i.i-index} c.loop-i-test.false) in
+    let i = c.loop-i.auto.i-index-end in
+    (omega (arith, h.1, z), omega (arith, h.0, i))

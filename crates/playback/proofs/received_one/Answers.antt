@@ -1,29 +1,12 @@
 use Prim.Native.Nat.{ℕ, ◌+◌, ◌*◌}
-use mathlib.Core.Path.{◌≡◌, ap, ◌∙◌}
-use mathlib.Core.List.{List}
-use native.Mathlib.Omega.{arith}
-use lib.Dec.{lit≤}
-use lib.ListN.{get_or, drop}
-use lib.Seq.{get_or-drop}
-use borrow.Author.Tests.{eq-eqb, ne_eqb}
-use Rattle.record.specs.Recorded.{recorded_in}
-use Rattle.recording.specs.Frames.{recorded_at}
-use Rattle.playback.specs.Playback.{received_one}
+use mathlib.Core.Path.{sym, ap, ◌∙◌}
+use lib.Dec.{eqb}
+use lib.ListN.{get_or}
+use mir.Val.{bool_byte}
+use Rattle.playback.proofs.Received.{one-le, kind_is}
 use Rattle.playback.proofs.received_one.Goals as goal
 
-kind : (b : List ℕ) (at : ℕ) → get_or (drop at b) 0 0 ≡ get_or b at 0
-kind b at =
-    let z : at + 0 ≡ at = omega arith in
-    get_or-drop at b 0 0 ∙ ap (λ (n : ℕ). get_or b n 0) z
-
-pub returns-then-bytes-i-eq1 : goal.returns-then-bytes-i-eq1
-unfolding received_one recorded_at recorded_in
-returns-then-bytes-i-eq1 c =
-    let a = c.args in
-    (rw (kind a.bytes.now (1024 * a.i + 2), eq-eqb _ _ c.if-bytes-i-eq1.true), lit≤ tt)
-
-pub returns-else-bytes-i-eq1 : goal.returns-else-bytes-i-eq1
-unfolding received_one recorded_at recorded_in
-returns-else-bytes-i-eq1 c =
-    let a = c.args in
-    (rw (kind a.bytes.now (1024 * a.i + 2), ne_eqb _ _ c.if-bytes-i-eq1.false), lit≤ tt)
+pub returns : goal.returns
+returns c =
+    let e = c.from-2.ensures ∙ ap (λ (n : ℕ). bool_byte (eqb (get_or c.args.bytes.now (1024 * n + 2) 0) 1)) c.from.ensures in
+    (e ∙ sym (kind_is c.args.bytes.now c.args.i), rw e (one-le _))

@@ -1,31 +1,10 @@
-use mathlib.Core.Path.{◌≡◌, sym, ◌∙◌}
-use mathlib.Core.Bool.{false}
-use lib.ListN.{length}
+use mathlib.Core.Path.{sym, ◌∙◌}
 use mir.Syntax.{w32}
 use Rattle.word.proofs.Words.{kept}
-use Rattle.layout.specs.Frame.{short_call}
-use Rattle.post.specs.Calls.{called}
 use Rattle.post.specs.Stages.{plc_received_call}
 use Rattle.post.proofs.Ends.{ended}
 use Rattle.post.proofs.post_plc_received.Goals as goal
 
-pub returns-then-short_call : goal.returns-then-short_call
-unfolding plc_received_call called
-returns-then-short_call c = rw (sym c.short_call.ensures ∙ c.if-short_call.true)
-
-pub plc_received-requires : goal.plc_received-requires
-plc_received-requires c =
-    let long : short_call (length c.args.words.now) (length c.args.halves.now) (length c.args.frame.now) (length c.args.coefs.now) ≡ false = sym c.short_call.ensures ∙ c.if-short_call.false in
-    long
-
-pub shape_of-words : goal.shape_of-words
-shape_of-words c = c.plc_received.auto.words
-
-pub shape_of-halves : goal.shape_of-halves
-shape_of-halves c = c.plc_received.auto.halves
-
 pub returns : goal.returns
 unfolding plc_received_call
-returns c =
-    let long : short_call (length c.args.words.now) (length c.args.halves.now) (length c.args.frame.now) (length c.args.coefs.now) ≡ false = sym c.short_call.ensures ∙ c.if-short_call.false in
-    ended _ _ long (kept w32 _ c.code.type_inv ∙ c.code.ensures) c.plc_received.ensures
+returns c = ended _ _ (sym c.short_call.ensures ∙ c.if-short_call.false) (kept w32 _ c.code.type_inv ∙ c.code.ensures) c.plc_received.ensures

@@ -1,38 +1,35 @@
 use mathlib.Core.Path.{◌≡◌, refl, sym, ap, ◌∙◌}
-use mathlib.Core.Bool.{cond}
-use mathlib.Core.List.{[], ◌∷◌}
 use borrow.Author.Tests.{lt-ltb, le-ltb}
 use lib.IntN.{pos}
 use lib.ListN.{length}
 use mir.Syntax.{w32}
 use Rattle.word.proofs.Words.{got}
-use Rattle.refusal.specs.Refusals.{refusal_number}
-use Rattle.announcement.specs.Rising.{rising_of}
-use Rattle.post_filters.specs.Calls.{called, rising_call}
-use Rattle.post_filters.proofs.Ends.{refused, accepted, set-one}
+use mathlib.Core.Bool.{Bool, true, false, cond}
+use mir.Val.{bool_byte}
+use Rattle.post_filters.specs.Calls.{called, given, rising_call}
+use Rattle.post_filters.proofs.Ends.{set-one}
 use Rattle.post_filters.proofs.post_rising.Goals as goal
+
+-- yes and no as numbers
+yes : (b : Bool) → pos (bool_byte b) ≡ cond b (pos 1) (pos 0)
+yes true = refl
+yes false = refl
 
 pub returns-then-answer-lt1 : goal.returns-then-answer-lt1
 unfolding rising_call called
 returns-then-answer-lt1 c = rw (lt-ltb (length c.args.answer.now) 1 c.if-answer-lt1.true) refl
 
-pub returns-then-number-ne0 : goal.returns-then-number-ne0
-unfolding rising_call
-returns-then-number-ne0 c =
-    let why : c.number.result ≡ refusal_number (rising_of c.args.lines.now c.args.order).refusal = c.number.ensures ∙ ap (λ t. refusal_number t.refusal) c.rising_check-t.ensures in
-    let s = c.args in
-    let u = rising_of s.lines.now s.order in
-    let e = got w32 c.code.type_inv c.code.ensures ∙ ap (λ t. pos (refusal_number t.refusal)) c.rising_check-t.ensures in
-    rw (le-ltb (length s.answer.now) 1 c.if-answer-lt1.false)
-    ((λ i. record { answer = e i; slice = s.answer.now })
-    ∙ sym (refused u.refusal (cond u.rising (pos 1) (pos 0) ∷ []) s.answer.now (λ z. c.if-number-ne0.true (why ∙ z))))
+pub returns-in-Ok : goal.returns-in-Ok
+unfolding rising_call called given
+returns-in-Ok c =
+    let lent = c.args.answer.now in
+    let e = sym c.in-Ok.ensures in
+    let x = got w32 c.from.type_inv (c.from.ensures ∙ yes c.in-Ok.rising) in
+    rw (le-ltb (length lent) 1 c.if-answer-lt1.false, e, x, set-one lent (cond c.in-Ok.rising (pos 1) (pos 0)) c.if-answer-lt1.false) refl
 
-pub returns : goal.returns
-unfolding rising_call
-returns c =
-    let why : c.number.result ≡ refusal_number (rising_of c.args.lines.now c.args.order).refusal = c.number.ensures ∙ ap (λ t. refusal_number t.refusal) c.rising_check-t.ensures in
-    let s = c.args in
-    let u = rising_of s.lines.now s.order in
-    let x = got w32 c.yes.type_inv c.yes.ensures ∙ ap (λ t. cond t.rising (pos 1) (pos 0)) c.rising_check-t.ensures in
-    rw (le-ltb (length s.answer.now) 1 c.if-answer-lt1.false, x, set-one s.answer.now (cond u.rising (pos 1) (pos 0)) c.if-answer-lt1.false)
-    (sym (accepted u.refusal (cond u.rising (pos 1) (pos 0) ∷ []) s.answer.now (sym why ∙ c.if-number-ne0.false)))
+pub returns-in-Err : goal.returns-in-Err
+unfolding rising_call called given
+returns-in-Err c =
+    let e = sym c.in-Err.ensures in
+    let n = got w32 c.from-in-Err.type_inv (c.from-in-Err.ensures ∙ ap pos c.number.ensures) in
+    rw (le-ltb (length c.args.answer.now) 1 c.if-answer-lt1.false, e, n) refl

@@ -22,5 +22,5 @@ returns c =
     let ew = c.is_received.ensures ∙ λ i. is_received (x i) in (
       c.put_frame.ensures ∙ (λ i. put_at a.frame.now 0 (frame_numbers (ew i) (r i) (m i) (eq i) (en i))),
       c.put_coefs.ensures ∙ (λ i. put_at a.coefs.now 0 (coef_numbers (en i) (eo i) (el i))),
-      c.copy16_at.ensures ∙ (λ i. put_at a.pulses.now 0 (ep i)),
+      c.copy_at.ensures ∙ (λ i. put_at a.pulses.now 0 (ep i)),
     )

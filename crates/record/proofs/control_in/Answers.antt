@@ -1,17 +1,16 @@
-use mir.Syntax.{w32}
 use mathlib.Core.Path.{◌∙◌}
+use mir.Syntax.{w16, w32}
 use Rattle.word.proofs.Words.{kept}
+use Rattle.le.proofs.Packing.{words_are}
 use Rattle.record.specs.Record.{control_in}
 use Rattle.record.proofs.control_in.Goals as goal
 
 pub returns : goal.returns
 unfolding control_in
 returns c =
-    let s = kept w32 c.i32_at.result c.i32_at.type_inv ∙ c.i32_at.ensures in
-    λ i.
-    record {
-      pitch_l = c.i32s4_at-pitch_l.ensures i;
-      gains_q16 = c.i32s4_at-gains_q16.ensures i;
-      ltp_coef_q14 = c.i16s20_at-ltp_coef_q14.ensures i;
-      ltp_scale_q14 = s i;
-    }
+    let b = c.args.b.now in
+    let l = c.words_at.ensures ∙ words_are w32 b 5 4 in
+    let g = c.words_at-2.ensures ∙ words_are w32 b 21 4 in
+    let t = c.words_at-3.ensures ∙ words_are w16 b 101 20 in
+    let s = kept w32 c.at.result c.at.type_inv ∙ c.at.ensures in
+    λ i. record { pitch_l = l i; gains_q16 = g i; ltp_coef_q14 = t i; ltp_scale_q14 = s i }

@@ -1,7 +1,9 @@
 use mathlib.Core.Path.{◌∙◌}
+use mir.Syntax.{w16}
+use Rattle.le.proofs.Packing.{words_are}
 use Rattle.record.specs.Record.{pulses_in}
 use Rattle.record.proofs.pulses_in.Goals as goal
 
 pub returns : goal.returns
 unfolding pulses_in
-returns c = c.i16s_at.ensures ∙ rw c.no_pulses-r.ensures
+returns c = c.words_at.ensures ∙ words_are w16 c.args.b.now 177 320

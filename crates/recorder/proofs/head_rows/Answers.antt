@@ -1,10 +1,23 @@
 use mir.Facts.{to_z-of_z}
 use mir.Syntax.{w32}
 use Rattle.word.proofs.Words.{kept}
-use Rattle.refusal.specs.First.{first_or}
+use Rattle.refusal.proofs.Clear.{row_stops, row_passes}
 use Rattle.recorder.proofs.head_rows.Goals as goal
 
+pub returns-in_err-refuse_if : goal.returns-in_err-refuse_if
+returns-in_err-refuse_if c = row_stops _ _ c.refuse_if.ensures (rw c.is_head.ensures) c.in_err-refuse_if.was c.from_residual.ensures.1
+
+pub returns-in_err-refuse_if-2 : goal.returns-in_err-refuse_if-2
+returns-in_err-refuse_if-2 c =
+    row_passes _ _ c.refuse_if.ensures (rw c.is_head.ensures) c.in_ok-refuse_if.was
+    (row_stops _ _ c.refuse_if-2.ensures
+    (rw (c.is_rate.ensures, kept w32 c.signed_byte.result c.signed_byte.type_inv, c.signed_byte.ensures, c.equals.ensures, to_z-of_z c.ranges.rate, c.wide8.ensures.0))
+    c.in_err-refuse_if-2.was c.from_residual-in_err-refuse_if-2.ensures.1)
+
 pub returns : goal.returns
-unfolding first_or
 returns c =
-    rw (c.first.ensures, c.is_head-head.ensures, c.first-from_1.ensures, c.both-rate_ok.ensures, c.is_rate.ensures, kept w32 c.signed_byte.result c.signed_byte.type_inv, c.signed_byte.ensures, c.equals.ensures, to_z-of_z c.ranges.rate, c.wide8.ensures.0, c.first-from_2.ensures, c.both-count_ok.ensures, c.is_count.ensures, kept w32 c.signed_byte-2.result c.signed_byte-2.type_inv, c.signed_byte-2.ensures, c.equals-2.ensures, to_z-of_z c.ranges.subframes, c.wide8-2.ensures.0)
+    row_passes _ _ c.refuse_if.ensures (rw c.is_head.ensures) c.in_ok-refuse_if.was
+    (row_passes _ _ c.refuse_if-2.ensures
+    (rw (c.is_rate.ensures, kept w32 c.signed_byte.result c.signed_byte.type_inv, c.signed_byte.ensures, c.equals.ensures, to_z-of_z c.ranges.rate, c.wide8.ensures.0))
+    c.in_ok-refuse_if-2.was
+    (rw (c.refuse_if-3.ensures, c.is_count.ensures, kept w32 c.signed_byte-2.result c.signed_byte-2.type_inv, c.signed_byte-2.ensures, c.equals-2.ensures, to_z-of_z c.ranges.subframes, c.wide8-2.ensures.0)))

@@ -6,7 +6,7 @@ use lib.ListN.{replicate}
 use mir.Facts.{to_z-of_z}
 use Rattle.word.specs.Int.{mod_ℤ}
 use Rattle.le.specs.Bytes.{with_bytes}
-use Rattle.refusal.specs.Letters.{letters}
+use Rattle.std.specs.Prelude.{codes}
 use Rattle.recorder.proofs.Laws.{put_head}
 use Rattle.recorder.proofs.put_head.Goals as goal
 
@@ -19,5 +19,5 @@ returns c =
     ∙ ap (λ (e : List ℕ). with_bytes e 8 (replicate 1016 0))
     (c.put_bytes-2.ensures
     ∙ (λ i. with_bytes (c.put_bytes.ensures i) 6 (r i ∷ n i ∷ []))
-    ∙ ap (λ (e : List ℕ). with_bytes (with_bytes e 2 (letters "YARD")) 6 (mod_ℤ c.args.rate 256 ∷ mod_ℤ c.args.subframes 256 ∷ [])) c.put_zeros.ensures)
+    ∙ ap (λ (e : List ℕ). with_bytes (with_bytes e 2 (codes "YARD")) 6 (mod_ℤ c.args.rate 256 ∷ mod_ℤ c.args.subframes 256 ∷ [])) c.put_zeros.ensures)
     ∙ put_head d c.args.rate c.args.subframes c.requires

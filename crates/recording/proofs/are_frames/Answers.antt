@@ -1,26 +1,21 @@
-use Prim.Native.Nat.{◌-◌}
-use native.Mathlib.Nat.{le_antisymm}
+use Rattle.std.proofs.Common.{refl, ◌∙◌}
+use Rattle.std.proofs.lemmas.List.{reverse-reverse}
+use Rattle.std.proofs.lemmas.Iterator.Adapters.{YieldsList-from_rev_slice}
+use Rattle.std.proofs.lemmas.Iterator.Consumers.{YieldsList-end}
 use Rattle.recording.specs.Frames.{are_frames}
-use Rattle.recording.proofs.Back.{last_none, last_more, last_all}
-use borrow.Author.Rules.{rules}
+use Rattle.recording.proofs.Back.{back_more}
 use Rattle.recording.proofs.are_frames.Goals as goal
 
-pub loop-k-init : goal.loop-k-init
+pub loop-i-init : goal.loop-i-init
 unfolding are_frames
-loop-k-init c =
-    (search rules, rw (last_none c.args.records.now c.args.n c.requires.0))
+loop-i-init c = refl
 
-pub is_frame-requires : goal.is_frame-requires
-is_frame-requires c =
-    (c.wide8-i.ensures.1, rw c.wide8-i.ensures.0 (c.requires.1 (c.args.n - 1 - c.loop-k.k)))
-
-pub loop-k-preserved : goal.loop-k-preserved
+pub loop-i-preserved : goal.loop-i-preserved
 unfolding are_frames
-loop-k-preserved c = (
-  search rules,
-  rw (last_more c.args.records.now c.args.n c.requires.0 c.loop-k.k (search rules), c.both-ok.ensures, c.is_frame.ensures, c.wide8-i.ensures.0, c.loop-k.invariant.1),
-)
+loop-i-preserved c =
+    rw (back_more c.loop-i.yielded c.in-Some.i, c.is_frame-ok.ensures, c.wide8.ensures.0, c.loop-i.invariant)
 
 pub returns : goal.returns
 returns c =
-    rw (c.loop-k.invariant.1, last_all c.args.records.now c.args.n c.requires.0 c.loop-k.k (le_antisymm c.loop-k.invariant.0 c.loop-k-test.false))
+    let e = YieldsList-end (YieldsList-from_rev_slice c.args.records.now cc) c.loop-i.yielded _ c.loop-i.yielded_by _ _ c.in-None.is c.next.ensures.steps in
+    c.loop-i.invariant ∙ rw (e.0, reverse-reverse c.args.records.now)

@@ -1,11 +1,7 @@
-use Prim.Native.Nat.{◌≤◌, ◌-◌}
 use mathlib.Core.Path.{◌≡◌}
+use mathlib.Core.List.{map, reverse}
 use Rattle.recording.specs.Frames.{are_frames}
-use Rattle.recording.proofs.Back.{last}
 use Rattle.recording.proofs.are_frames.Given as goal
 
-abbrev pub invariant-loop-k : goal.invariant-loop-k
-invariant-loop-k l = (l.k ≤ l.n) × (l.ok ≡ are_frames l.bytes (last l.records l.n l.k))
-
-abbrev pub decreases-loop-k : goal.decreases-loop-k
-decreases-loop-k l = l.n - l.k
+abbrev pub invariant-loop-i : goal.invariant-loop-i
+invariant-loop-i l = l.ok ≡ are_frames l.bytes (reverse (map (λ r. r.now) l.yielded))

@@ -1,8 +1,24 @@
 use mir.Facts.{to_z-of_z}
-use Rattle.refusal.specs.First.{first_or}
+use Rattle.recording.proofs.Rows.{row_stops, row_passes, rows_pass}
 use Rattle.recording.proofs.content.Goals as goal
 
+pub returns-in_err-refuse_if : goal.returns-in_err-refuse_if
+returns-in_err-refuse_if c = row_stops _ _ _ c.refuse_if.ensures (rw (c.is_head.ensures, c.are_frames.ensures)) c.in_err-refuse_if.was c.from_residual.ensures.1
+
+pub returns-in_err-refuse_if-2 : goal.returns-in_err-refuse_if-2
+returns-in_err-refuse_if-2 c =
+    row_passes _ _ _ c.refuse_if.ensures (rw (c.is_head.ensures, c.are_frames.ensures)) c.in_ok-refuse_if.was
+    (row_stops _ _ _ c.refuse_if-2.ensures (rw (c.is_rate.ensures, to_z-of_z c.ranges.rate)) c.in_err-refuse_if-2.was c.from_residual-in_err-refuse_if-2.ensures.1)
+
+pub returns-in_err-refuse_if-3 : goal.returns-in_err-refuse_if-3
+returns-in_err-refuse_if-3 c =
+    row_passes _ _ _ c.refuse_if.ensures (rw (c.is_head.ensures, c.are_frames.ensures)) c.in_ok-refuse_if.was
+    (row_passes _ _ _ c.refuse_if-2.ensures (rw (c.is_rate.ensures, to_z-of_z c.ranges.rate)) c.in_ok-refuse_if-2.was
+    (row_stops _ _ _ c.refuse_if-3.ensures (rw (c.is_count.ensures, to_z-of_z c.ranges.subframes)) c.in_err-refuse_if-3.was c.from_residual-in_err-refuse_if-3.ensures.1))
+
 pub returns : goal.returns
-unfolding first_or
 returns c =
-    rw (c.first.ensures, c.both.ensures, c.is_head-head.ensures, c.are_frames-frames.ensures, c.first-from_1.ensures, c.is_rate.ensures, c.first-from_2.ensures, c.is_count.ensures, c.described_all-rows.ensures, to_z-of_z c.ranges.rate, to_z-of_z c.ranges.subframes)
+    row_passes _ _ _ c.refuse_if.ensures (rw (c.is_head.ensures, c.are_frames.ensures)) c.in_ok-refuse_if.was
+    (row_passes _ _ _ c.refuse_if-2.ensures (rw (c.is_rate.ensures, to_z-of_z c.ranges.rate)) c.in_ok-refuse_if-2.was
+    (row_passes _ _ _ c.refuse_if-3.ensures (rw (c.is_count.ensures, to_z-of_z c.ranges.subframes)) c.in_ok-refuse_if-3.was
+    (rows_pass _ (rw (c.described_all.ensures, to_z-of_z c.ranges.rate, to_z-of_z c.ranges.subframes)))))

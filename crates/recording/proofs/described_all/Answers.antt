@@ -1,32 +1,22 @@
-use Prim.Native.Nat.{◌+◌, ◌*◌, ◌≤◌, ◌-◌}
-use native.Mathlib.Nat.{le_antisymm}
-use lib.ListN.{length}
+use Rattle.std.proofs.Common.{refl, ◌∙◌}
 use mir.Facts.{to_z-of_z}
+use Rattle.std.proofs.lemmas.List.{reverse-reverse}
+use Rattle.std.proofs.lemmas.Iterator.Adapters.{YieldsList-from_rev_slice}
+use Rattle.std.proofs.lemmas.Iterator.Consumers.{YieldsList-end}
 use Rattle.recording.specs.Frames.{described_all}
-use Rattle.recording.proofs.Back.{last_none, last_more, last_all}
-use borrow.Author.Rules.{rules}
-use Rattle.recording.proofs.described_all.Goals.{After-wide8-i}
+use Rattle.recording.proofs.Back.{back_more}
 use Rattle.recording.proofs.described_all.Goals as goal
 
-inside : (c : After-wide8-i) → 1024 * c.wide8-i.result + 1024 ≤ length c.args.bytes.now
-inside c =
-    rw c.wide8-i.ensures.0 (c.requires.1 (c.args.n - 1 - c.loop-k.k))
-
-pub loop-k-init : goal.loop-k-init
+pub loop-i-init : goal.loop-i-init
 unfolding described_all
-loop-k-init c =
-    (search rules, rw (last_none c.args.records.now c.args.n c.requires.0))
+loop-i-init c = refl
 
-pub described-requires : goal.described-requires
-described-requires c = (c.wide8-i.ensures.1, inside c)
-
-pub loop-k-preserved : goal.loop-k-preserved
+pub loop-i-preserved : goal.loop-i-preserved
 unfolding described_all
-loop-k-preserved c = (
-  search rules,
-  rw (last_more c.args.records.now c.args.n c.requires.0 c.loop-k.k (search rules), c.earlier-worst.ensures, c.described.ensures, c.wide8-i.ensures.0, c.loop-k.invariant.1),
-)
+loop-i-preserved c =
+    rw (back_more c.loop-i.yielded c.in-Some.i, c.earlier-worst.ensures, c.described.ensures, c.wide8.ensures.0, c.loop-i.invariant)
 
 pub returns : goal.returns
 returns c =
-    rw (c.loop-k.invariant.1, last_all c.args.records.now c.args.n c.requires.0 c.loop-k.k (le_antisymm c.loop-k.invariant.0 c.loop-k-test.false), to_z-of_z c.ranges.khz, to_z-of_z c.ranges.nb_subfr)
+    let e = YieldsList-end (YieldsList-from_rev_slice c.args.records.now cc) c.loop-i.yielded _ c.loop-i.yielded_by _ _ c.in-None.is c.next.ensures.steps in
+    c.loop-i.invariant ∙ rw (e.0, reverse-reverse c.args.records.now, to_z-of_z c.ranges.khz, to_z-of_z c.ranges.nb_subfr)

@@ -11,4 +11,4 @@ returns-then-b-ne1 c = rw (ne_eqb _ _ c.if-b-ne1.true)
 pub returns : goal.returns
 unfolding described recorded_in
 returns c =
-    rw (eq-eqb _ _ c.if-b-ne1.false, c.description.ensures, c.params_in-q.ensures, c.control_in-c.ensures, c.lines_in-lines.ensures, to_z-of_z c.ranges.khz, to_z-of_z c.ranges.nb_subfr)
+    rw (eq-eqb _ _ c.if-b-ne1.false, c.description.ensures, c.params_in.ensures, c.control_in.ensures, c.lines_in.ensures, to_z-of_z c.ranges.khz, to_z-of_z c.ranges.nb_subfr)

@@ -1,97 +1,121 @@
-use mathlib.Core.Path.{◌≡◌, sym, ap, ◌∙◌}
+use mathlib.Core.Path.{◌≡◌, refl, sym, ap, ◌∙◌}
+use mathlib.Core.Bool.{true, false, false≢true}
 use mathlib.Core.List.{List}
+use Rattle.std.specs.Prelude.{Option, Some, None, Result, Ok, Err, is_ok}
+use Rattle.std.specs.Option.{ok_or}
 use Prim.Native.Nat.{ℕ, ◌≤◌}
 use mir.Syntax.{w32}
 use mir.Val.{to_z, of_z}
 use Rattle.word.proofs.Words.{kept}
-use native.Mathlib.Omega.{arith}
 use lib.ListN.{length, take}
-use Rattle.refusal.specs.declared.Refusal.TheVariants.{Chain, Record}
+use lib.Seq.{length-take-le}
+use Rattle.refusal.specs.declared.Refusal.{Refusal}
+use Rattle.refusal.specs.declared.Refusal.TheVariants.{Chain}
+use Rattle.refusal.proofs.Clear.{at_err, answered_is}
 use Rattle.chain.specs.declared.Order.{Order}
-use Rattle.chain.specs.Chain.{order_of, chain_of, is_broken, on_chain, padded}
+use Rattle.chain.specs.Chain.{order, order_of, is_whole, chain_of, is_broken, on_chain, padded}
 use Rattle.chain.proofs.Records.{padded-front}
 use Rattle.recording.specs.Frames.{rate_in, count_in, frames_in}
 use Rattle.recording.specs.Reading.{read_refusal}
-use Rattle.recording.proofs.Answers.{not_whole, is_broken_lem, by_content, read-refused, read-accepted, enough, padded_60, few-frames, inside}
+use Rattle.recording.proofs.Answers.{stops, passes, is_broken_lem, by_content, read-refused, read-accepted, enough, padded_60, few-frames, inside_chain}
 use borrow.Author.Rules.{rules}
-use Rattle.recording.proofs.read.Goals.{After-content-refusal}
+use Rattle.recording.proofs.read.Goals.{In_ok-order, After-content}
 use Rattle.recording.proofs.read.Goals as goal
 
 -- the chain, as the code has it
-module _ (b : List ℕ) (o : Order) (e : o ≡ order_of (chain_of b)) where
-  broken-is : o.broken ≡ is_broken (chain_of b)
-  unfolding order_of
-  broken-is = ap (λ (x : Order). x.broken) e
+is-through : (x : Option (List ℕ)) (o : Order) → Ok o ≡ ok_or (order_of x) Chain → (is_broken x ≡ false) × (o ≡ order (on_chain x))
+unfolding is_broken on_chain
+is-through (Some ks) o e = (refl, sym (answered_is (Ok tt) (order ks) o (sym e)).1)
+is-through None o e = absurd (false≢true (sym (ap is_ok e)))
 
-  frames_are : o.frames ≡ length (on_chain (chain_of b))
-  unfolding order_of
-  frames_are = ap (λ (x : Order). x.frames) e
+row_in : Result Order Refusal → Refusal
+row_in (Ok o) = Chain
+row_in (Err r) = r
 
-  records-are : o.records ≡ padded (on_chain (chain_of b))
-  unfolding order_of
-  records-are = ap (λ (x : Order). x.records) e
+is-none : (x : Option (List ℕ)) (e : Refusal) → Err e ≡ ok_or (order_of x) Chain → (is_broken x ≡ true) × (Chain ≡ e)
+unfolding is_broken row_in
+is-none (Some ks) e h = absurd (false≢true (ap is_ok h))
+is-none None e h = (refl, sym (ap row_in h))
 
-  first-are : take o.frames o.records ≡ on_chain (chain_of b)
-  first-are = (λ i. take (frames_are i) (records-are i)) ∙ padded-front (on_chain (chain_of b))
+-- what is on the chain
+module _ (c : In_ok-order) where
+  is-whole : is_whole (length c.args.bytes.now) ≡ true
+  is-whole = passes c.args.bytes.now c.refuse_if.ensures c.is_whole.ensures c.in_ok-refuse_if.was
+
+  through : (is_broken (chain_of c.args.bytes.now) ≡ false) × (c.in_ok-order.order ≡ order (on_chain (chain_of c.args.bytes.now)))
+  through =
+      is-through (chain_of c.args.bytes.now) c.in_ok-order.order
+      (c.in_ok-order.ensures.value ∙ ap (λ (x : Option Order). ok_or x Chain) c.chain.ensures)
+
+  frames_are : c.in_ok-order.order.frames ≡ length (on_chain (chain_of c.args.bytes.now))
+  frames_are = ap (λ (x : Order). x.frames) through.1
+
+  records-are : c.in_ok-order.order.records ≡ padded (on_chain (chain_of c.args.bytes.now))
+  records-are = ap (λ (x : Order). x.records) through.1
+
+  first-are : take c.in_ok-order.order.frames c.in_ok-order.order.records ≡ on_chain (chain_of c.args.bytes.now)
+  first-are = (λ i. take (frames_are i) (records-are i)) ∙ padded-front (on_chain (chain_of c.args.bytes.now))
+
+  enough-bytes : 1024 ≤ length c.args.bytes.now
+  enough-bytes = enough c.args.bytes.now is-whole
+
+  few : c.in_ok-order.order.frames ≤ length c.in_ok-order.order.records
+  few = rw (frames_are, records-are, padded_60 c.args.bytes.now is-whole) (few-frames c.args.bytes.now is-whole)
 
 -- the rows behind the chain
-module _ (c : After-content-refusal) where
+module _ (c : After-content) where
   rate_is : to_z w32 (of_z w32 c.signed_byte-rate.result) ≡ rate_in c.args.bytes.now
   rate_is = kept w32 c.signed_byte-rate.result c.signed_byte-rate.type_inv ∙ c.signed_byte-rate.ensures
 
   count_is : to_z w32 (of_z w32 c.signed_byte-subframes.result) ≡ count_in c.args.bytes.now
   count_is = kept w32 c.signed_byte-subframes.result c.signed_byte-subframes.type_inv ∙ c.signed_byte-subframes.ensures
 
-  content-is : read_refusal c.args.bytes.now ≡ c.content-refusal.result
+  content-is : read_refusal c.args.bytes.now ≡ c.content.result
   unfolding frames_in
   content-is =
-      by_content c.args.bytes.now (sym c.is_whole.ensures ∙ c.if-not-is_whole.false) (sym (broken-is c.args.bytes.now c.chain-order.result c.chain-order.ensures) ∙ c.if-order.false)
-      ∙ sym (c.content-refusal.ensures ∙ rw (first-are c.args.bytes.now c.chain-order.result c.chain-order.ensures, rate_is, count_is))
+      let k = (goal.at.After-content c).In_ok-order in
+      by_content c.args.bytes.now (is-whole k) (through k).0 ∙ sym (c.content.ensures ∙ rw (first-are k, rate_is, count_is))
 
-pub returns-then-not-is_whole : goal.returns-then-not-is_whole
-returns-then-not-is_whole c =
+pub returns-in_err-refuse_if : goal.returns-in_err-refuse_if
+returns-in_err-refuse_if c =
+    at_err _ _ c.from_residual.ensures.1 ∙ read-refused c.args.bytes.now (stops c.args.bytes.now c.refuse_if.ensures c.is_whole.ensures c.in_err-refuse_if.was)
+
+pub chain-requires : goal.chain-requires
+chain-requires c = passes c.args.bytes.now c.refuse_if.ensures c.is_whole.ensures c.in_ok-refuse_if.was
+
+pub returns-in_err-order : goal.returns-in_err-order
+returns-in_err-order c =
     let b = c.args.bytes.now in
-    c.refused.ensures
-    ∙ read-refused b Record (not_whole b (sym c.is_whole.ensures ∙ c.if-not-is_whole.true)) (λ e. omega (arith, e))
-
-pub chain-order-requires : goal.chain-order-requires
-chain-order-requires c = sym c.is_whole.ensures ∙ c.if-not-is_whole.false
-
-pub returns-then-order : goal.returns-then-order
-returns-then-order c =
-    let b = c.args.bytes.now in
-    c.refused-then-order.ensures
-    ∙ read-refused b Chain (is_broken_lem b (sym c.is_whole.ensures ∙ c.if-not-is_whole.false) (sym (broken-is b c.chain-order.result c.chain-order.ensures) ∙ c.if-order.true)) (λ e. omega (arith, e))
+    let n = is-none (chain_of b) _ (c.in_err-order.ensures.value ∙ ap (λ (x : Option Order). ok_or x Chain) c.chain.ensures) in
+    at_err _ _ c.from_residual-in_err-order.ensures.1
+    ∙ read-refused b (is_broken_lem b (passes b c.refuse_if.ensures c.is_whole.ensures c.in_ok-refuse_if.was) n.0 ∙ ap Err n.1)
 
 pub bounds-bytes-6 : goal.bounds-bytes-6
-bounds-bytes-6 c = let h = enough c.args.bytes.now (sym c.is_whole.ensures ∙ c.if-not-is_whole.false) in search rules
+bounds-bytes-6 c = let h = enough-bytes (goal.at.bounds-bytes-6 c).In_ok-order in search rules
 
 pub bounds-bytes-7 : goal.bounds-bytes-7
-bounds-bytes-7 c = let h = enough c.args.bytes.now (sym c.is_whole.ensures ∙ c.if-not-is_whole.false) in search rules
+bounds-bytes-7 c = let h = enough-bytes (goal.at.bounds-bytes-7 c).In_ok-order in search rules
+
+pub slice_bounds-records-end : goal.slice_bounds-records-end
+slice_bounds-records-end c = few (goal.at.slice_bounds-records-end c).In_ok-order
 
 pub slice_bounds-content-end : goal.slice_bounds-content-end
 slice_bounds-content-end c =
-    let b = c.args.bytes.now in
-    let n : length c.chain-order.result.records ≡ 60 = rw (records-are b c.chain-order.result c.chain-order.ensures) (padded_60 b (sym c.is_whole.ensures ∙ c.if-not-is_whole.false)) in
-    search rules
+    sym (length-take-le c.in_ok-order.order.frames c.in_ok-order.order.records (few (goal.at.slice_bounds-content-end c).In_ok-order))
 
-pub content-refusal-requires : goal.content-refusal-requires
-content-refusal-requires c =
-    let b = c.args.bytes.now in
-    let w = sym c.is_whole.ensures ∙ c.if-not-is_whole.false in
-    let r = records-are b c.chain-order.result c.chain-order.ensures in
-    let f : c.chain-order.result.frames ≤ length c.chain-order.result.records = rw (frames_are b c.chain-order.result c.chain-order.ensures, r, padded_60 b w) (few-frames b w) in
-    (enough b w, f, rw r (inside b w))
+pub content-requires : goal.content-requires
+content-requires c =
+    let k = (goal.at.content-requires c).In_ok-order in
+    (enough-bytes k, rw (first-are k) (inside_chain c.args.bytes.now (is-whole k)))
 
-pub returns-then-number-ne0 : goal.returns-then-number-ne0
-returns-then-number-ne0 c =
-    c.refused-then-number-ne0.ensures
-    ∙ read-refused c.args.bytes.now c.content-refusal.result (content-is (goal.at.returns-then-number-ne0 c).After-content-refusal) (λ e. c.if-number-ne0.true (c.number.ensures ∙ e))
+pub returns-in_err-content : goal.returns-in_err-content
+returns-in_err-content c =
+    at_err _ _ c.from_residual-in_err-content.ensures.1
+    ∙ read-refused c.args.bytes.now (content-is (goal.at.returns-in_err-content c).After-content ∙ c.in_err-content.was)
 
 pub returns : goal.returns
 returns c =
-    let k = (goal.at.returns c).After-content-refusal in
-    let b = c.args.bytes.now in
-    let o = c.chain-order.result in
-    (λ i. record { refusal = c.content-refusal.result; rate = rate_is k i; subframes = count_is k i; frames = frames_are b o c.chain-order.ensures i; records = records-are b o c.chain-order.ensures i })
-    ∙ read-accepted b c.content-refusal.result (content-is k) (sym c.number.ensures ∙ c.if-number-ne0.false)
+    let k = (goal.at.returns c).After-content in
+    let o = (goal.at.returns c).In_ok-order in
+    (λ i. Ok (record { rate = rate_is k i; subframes = count_is k i; frames = frames_are o i; records = records-are o i }))
+    ∙ read-accepted c.args.bytes.now (content-is k ∙ c.in_ok-content.was)

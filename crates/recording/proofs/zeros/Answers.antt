@@ -1,17 +1,14 @@
-use mathlib.Core.Path.{refl}
-use native.Mathlib.Numerals.{add-one}
-use native.Mathlib.Nat.{le_antisymm}
-use Rattle.recording.specs.Frames.{zeros}
-use borrow.Author.Rules.{rules}
+use Rattle.std.proofs.Common.{◌≡◌, ℕ, ◌+◌, ◌-◌, ap, ◌∙◌, take, drop, eqb, arith, rules}
+use Rattle.std.specs.List.{list_all}
+use Rattle.std.proofs.lemmas.Iterator.{YieldsList-from_slice}
+use Rattle.std.proofs.lemmas.Iterator.Search.{all_from_yields_List}
+use Rattle.recording.proofs.Back.{zeros_each}
 use Rattle.recording.proofs.zeros.Goals as goal
 
-pub loop-i-init : goal.loop-i-init
-unfolding zeros
-loop-i-init c = (search rules, refl)
-
-pub loop-i-preserved : goal.loop-i-preserved
-unfolding zeros
-loop-i-preserved c = (search rules, rw (add-one, c.loop-i.invariant.1))
-
 pub returns : goal.returns
-returns c = rw (c.loop-i.invariant.1, le_antisymm c.loop-i.invariant.0 c.loop-i-test.false)
+returns c =
+    let a = c.args in
+    let n : a.at + a.n - a.at ≡ a.n = omega arith in
+    let h : c.all.result ≡ list_all (λ x. eqb x 0) (take (a.at + a.n - a.at) (drop a.at a.bytes.now)) =
+    all_from_yields_List (λ x. eqb x 0) _ _ c.all.result c.all.ensures.ran (YieldsList-from_slice (take (a.at + a.n - a.at) (drop a.at a.bytes.now)) cc) (λ x b q k. search rules) in
+    h ∙ ap (λ (m : ℕ). list_all (λ x. eqb x 0) (take m (drop a.at a.bytes.now))) n ∙ zeros_each a.bytes.now a.at a.n c.requires

@@ -1,4 +1,4 @@
-use Prim.Native.Nat.{◌-◌, ◌≤◌}
+use Prim.Native.Nat.{◌≤◌}
 use mathlib.Core.Path.{◌≡◌}
 use mathlib.Core.List.{◌++◌}
 use lib.IntN.{pos}
@@ -9,7 +9,4 @@ use Rattle.replay.proofs.shorts.Given as goal
 
 abbrev pub invariant-loop-i : goal.invariant-loop-i
 invariant-loop-i l =
-    (l.i ≤ 64) × (length l.new ≡ 64) × (l.new ≡ tabulate l.i (λ k. wrap16 (get_or l.row k (pos 0))) ++ drop l.i (replicate 64 (pos 0)))
-
-abbrev pub decreases-loop-i : goal.decreases-loop-i
-decreases-loop-i l = 64 - l.i
+    (l.i ≤ 64) × (length l.x-items ≡ 64) × (l.x-items ≡ tabulate l.i (λ k. wrap16 (get_or l.row k (pos 0))) ++ drop l.i (replicate 64 (pos 0)))

@@ -5,25 +5,20 @@ use native.Mathlib.Omega.{arith}
 use borrow.Author.Rules.{rules}
 use lib.IntN.{pos, nat_abs}
 use lib.ListN.{length}
-use mir.Syntax.{w32}
 use mir.Facts.{to_z-of_z}
 use Rattle.word.proofs.Order.{lt_read_l}
 use Rattle.word.proofs.Sizes.{fits-abs}
-use Rattle.word.proofs.Words.{got, mod-wrap}
 use Rattle.sentence.specs.Sentence.{decimal}
 use Rattle.sentence.proofs.Digits.{length-decimal, signed_below, signed_above}
 use Rattle.sentence.proofs.Texts.{with_len, with-with}
-use Rattle.sentence.proofs.with_number.Goals.{After-bits32-size}
+use Rattle.sentence.proofs.with_number.Goals.{After-unsigned_abs-size}
 use Rattle.sentence.proofs.with_number.Goals as goal
 
 -- the size of the number, and how many digits it has
-size : (c : After-bits32-size) → c.bits32-size.result ≡ nat_abs c.args.v
-size c =
-    let v = c.args.v in
-    let h = fits-abs v c.ranges.v in
-    rw (c.bits32-size.ensures, got w32 c.abs32.type_inv c.abs32.ensures, to_z-of_z c.ranges.v, mod-wrap w32 (pos (nat_abs v))) (omega arith)
+size : (c : After-unsigned_abs-size) → c.unsigned_abs-size.result ≡ nat_abs c.args.v
+size c = rw (c.unsigned_abs-size.ensures.value, to_z-of_z c.ranges.v)
 
-few : (c : After-bits32-size) → length (decimal (nat_abs c.args.v)) < 11
+few : (c : After-unsigned_abs-size) → length (decimal (nat_abs c.args.v)) < 11
 few c =
     let v = c.args.v in
     omega (arith, length-decimal 9 (nat_abs v) (omega (arith, fits-abs v c.ranges.v)))

@@ -1,18 +1,24 @@
-use lib.Dec.{lit<}
-use mir.Syntax.{w32}
-use Rattle.word.proofs.Order.{key}
+use mathlib.Core.Path.{◌≡◌, refl}
+use mathlib.Core.Bool.{true, false}
+use native.Mathlib.Omega.{arith}
+use mir.Facts.{to_z-of_z}
 use Rattle.shape.specs.Shape.{is_count, count_of}
-use Rattle.shape.proofs.Shapes.{no_count}
+use Rattle.shape.proofs.Shapes.{casts, count_kept, count_le}
 use Rattle.shape.proofs.count_of.Goals as goal
 
-pub returns-in-2 : goal.returns-in-2
-unfolding is_count count_of
-returns-in-2 c = rw (key w32 c.args.nb_subfr 2 (lit< tt) c.ranges.nb_subfr c.in-2.in-2-own.keys1)
+pub overflow_cast-result : goal.overflow_cast-result
+overflow_cast-result c =
+    let e : is_count c.args.nb_subfr ≡ true = cc (to_z-of_z c.ranges.nb_subfr, c.if-is_count.true) in
+    rw (to_z-of_z c.ranges.nb_subfr) (casts (count_of c.args.nb_subfr) (omega (arith, count_le c.args.nb_subfr)) (count_kept c.args.nb_subfr e))
 
-pub returns-in-4 : goal.returns-in-4
-unfolding is_count count_of
-returns-in-4 c = rw (key w32 c.args.nb_subfr 4 (lit< tt) c.ranges.nb_subfr c.in-4.in-4-own.keys2)
-
-pub returns-in_default : goal.returns-in_default
+pub returns-then-is_count : goal.returns-then-is_count
 unfolding count_of
-returns-in_default c = rw (no_count c.args.nb_subfr c.in_default.in_default-own.rest.0.1 c.in_default.in_default-own.rest.1)
+returns-then-is_count c =
+    let e : is_count c.args.nb_subfr ≡ true = cc (to_z-of_z c.ranges.nb_subfr, c.if-is_count.true) in
+    rw (to_z-of_z c.ranges.nb_subfr, e) refl
+
+pub returns-else-is_count : goal.returns-else-is_count
+unfolding count_of
+returns-else-is_count c =
+    let e : is_count c.args.nb_subfr ≡ false = cc (to_z-of_z c.ranges.nb_subfr, c.if-is_count.false) in
+    rw e refl

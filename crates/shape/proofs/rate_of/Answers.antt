@@ -1,22 +1,23 @@
-use lib.Dec.{lit<}
-use mir.Syntax.{w32}
-use Rattle.word.proofs.Order.{key}
+use mathlib.Core.Path.{◌≡◌, refl}
+use mathlib.Core.Bool.{true, false}
+use mir.Facts.{to_z-of_z}
 use Rattle.shape.specs.Shape.{is_rate, rate_of}
-use Rattle.shape.proofs.Shapes.{no_rate}
+use Rattle.shape.proofs.Shapes.{casts, rate_kept, rate_le}
 use Rattle.shape.proofs.rate_of.Goals as goal
 
-pub returns-in-8 : goal.returns-in-8
-unfolding is_rate rate_of
-returns-in-8 c = rw (key w32 c.args.khz 8 (lit< tt) c.ranges.khz c.in-8.in-8-own.keys1)
+pub overflow_cast-result : goal.overflow_cast-result
+overflow_cast-result c =
+    let e : is_rate c.args.khz ≡ true = cc (to_z-of_z c.ranges.khz, c.if-is_rate.true) in
+    rw (to_z-of_z c.ranges.khz) (casts (rate_of c.args.khz) (rate_le c.args.khz) (rate_kept c.args.khz e))
 
-pub returns-in-12 : goal.returns-in-12
-unfolding is_rate rate_of
-returns-in-12 c = rw (key w32 c.args.khz 12 (lit< tt) c.ranges.khz c.in-12.in-12-own.keys2)
-
-pub returns-in-16 : goal.returns-in-16
-unfolding is_rate rate_of
-returns-in-16 c = rw (key w32 c.args.khz 16 (lit< tt) c.ranges.khz c.in-16.in-16-own.keys3)
-
-pub returns-in_default : goal.returns-in_default
+pub returns-then-is_rate : goal.returns-then-is_rate
 unfolding rate_of
-returns-in_default c = rw (no_rate c.args.khz c.in_default.in_default-own.rest.0.0.1 c.in_default.in_default-own.rest.0.1 c.in_default.in_default-own.rest.1)
+returns-then-is_rate c =
+    let e : is_rate c.args.khz ≡ true = cc (to_z-of_z c.ranges.khz, c.if-is_rate.true) in
+    rw (to_z-of_z c.ranges.khz, e) refl
+
+pub returns-else-is_rate : goal.returns-else-is_rate
+unfolding rate_of
+returns-else-is_rate c =
+    let e : is_rate c.args.khz ≡ false = cc (to_z-of_z c.ranges.khz, c.if-is_rate.false) in
+    rw e refl

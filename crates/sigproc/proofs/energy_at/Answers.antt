@@ -20,7 +20,7 @@ loop-m-preserved c =
       search rules,
       refl,
       refl,
-      rw (add-one, c.wrapping_add_u32-sum.ensures.value, p, c.loop-m.invariant.3) (omega arith),
+      rw (add-one, p, c.loop-m.invariant.3) (omega arith),
       rw add-one (omega (arith, more_le a.s (pairs x a.s m) q (2 ^ 31 * m) (2 ^ 31) c.loop-m.invariant.4 (omega arith))),
     )
 
@@ -39,6 +39,6 @@ returns c =
     let q = square x (length x - 1) in
     let p : c.square-2.result ≡ q = rw (c.square-2.ensures.0, kept w16 (get_or x (length x - 1) (pos 0)) c.square-arg-2-1.given) in
     rw (energy_odd x a.s (omega arith), ← e) (
-      rw (c.wrapping_add_u32.ensures.value, p, c.loop-m.invariant.3) (omega arith),
+      rw (p, c.loop-m.invariant.3) (omega arith),
       omega (arith, more_le a.s (pairs x a.s c.loop-m.m) q (2 ^ 31 * c.loop-m.m) (2 ^ 30) c.loop-m.invariant.4 (omega arith)),
     )

@@ -1,12 +1,8 @@
-use Rattle.std.proofs.Common.{◌≡◌, ℕ, ◌-◌, ◌≤◌, ◌++◌, length, get_or, drop, pos}
+use Rattle.std.proofs.Common.{◌≡◌, ℕ, ◌++◌, length, get_or, drop, pos}
 use Rattle.word.specs.Tabulate.{tabulate}
 use Rattle.sigproc.specs.Synthesis.{played_q10}
 use Rattle.sigproc.proofs.scale_out.Given as goal
 
 abbrev pub invariant-loop-i : goal.invariant-loop-i
 invariant-loop-i l =
-    (l.i ≤ l.i-end) × (l.i-end ≡ length l.s) × (length l.xq ≡ length l.initial.xq)
-    × (l.xq ≡ tabulate l.i (λ (k : ℕ). played_q10 l.gain_q10 (get_or l.s k (pos 0))) ++ drop l.i l.initial.xq)
-
-abbrev pub decreases-loop-i : goal.decreases-loop-i
-decreases-loop-i l = l.i-end - l.i
+    (length l.xq ≡ length l.s) × (l.xq ≡ tabulate l.i (λ (k : ℕ). played_q10 l.gain_q10 (get_or l.s k (pos 0))) ++ drop l.i l.initial.xq)

@@ -1,30 +1,33 @@
-use Rattle.std.proofs.Common.{refl, le_refl, le_antisymm, add-one, to_z-of_z, w16, w32, to_z, of_z, rules}
+use Rattle.std.proofs.Common.{◌≡◌, length, take, refl, le_refl, add-one, arith, length-take-le, to_z-of_z, w16, w32, to_z, of_z}
 use Rattle.word.proofs.Words.{kept}
 use Rattle.sigproc.specs.Expand.{factor, bwexpander}
-use Rattle.sigproc.proofs.Shrink.{expand_past}
+use Rattle.sigproc.proofs.Shrink.{expand_past, expand_front}
 use Rattle.sigproc.proofs.silk_bwexpander.Goals as goal
 
-pub loop-j-init : goal.loop-j-init
+pub loop-a-init : goal.loop-a-init
 unfolding factor bwexpander
-loop-j-init c = (search rules, refl, refl)
+loop-a-init c = (refl, refl)
 
-pub loop-j-preserved : goal.loop-j-preserved
+pub loop-a-preserved : goal.loop-a-preserved
 unfolding factor bwexpander
-loop-j-preserved c =
-    let a = c.args in (
-      search rules,
-      rw (add-one, kept w32 c.round_q16-f.result c.round_q16-f.type_inv, c.round_q16-f.ensures, c.loop-j.invariant.1),
+loop-a-preserved c =
+    let a = c.args in
+    let l = c.loop-a in (
+      rw (add-one, kept w32 c.round_q16-f.result c.round_q16-f.type_inv, c.round_q16-f.ensures, l.invariant.0),
       rw (
         add-one,
         kept w16 _ c.shrunk.type_inv,
         c.shrunk.ensures,
         kept w16 _ c.shrunk-arg-1.given,
-        c.loop-j.invariant.1,
-        c.loop-j.invariant.2,
-        expand_past (to_z w32 (of_z w32 a.chirp_q16)) a.ar.now c.loop-j.j c.loop-j.j (le_refl _),
+        l.invariant.0,
+        l.invariant.1,
+        expand_past (to_z w32 (of_z w32 a.chirp_q16)) (take a.d a.ar.now) l.a-index l.a-index (le_refl _),
       ),
     )
 
 pub returns : goal.returns
 returns c =
-    rw (c.loop-j.invariant.2, le_antisymm c.loop-j.invariant.0 c.loop-j-test.false, to_z-of_z c.ranges.chirp_q16)
+    let a = c.args in
+    let n : length (take a.d a.ar.now) ≡ a.d = length-take-le a.d a.ar.now (omega arith) in
+    let e : c.loop-a.a-index ≡ a.d = omega (arith, n, c.loop-a.auto.a-index-end) in
+    rw (c.loop-a.invariant.1, e, to_z-of_z c.ranges.chirp_q16) (expand_front a.chirp_q16 a.ar.now a.d a.d (le_refl _) (omega arith))

@@ -7,10 +7,10 @@ use Rattle.sigproc.proofs.synthesis_of_order.Goals as goal
 
 pub loop-i-init : goal.loop-i-init
 unfolding synthesis
-loop-i-init c = (search rules, search rules, refl, sym (take-append-drop 16 c.args.buf.now))
+loop-i-init g c = (search rules, search rules, refl, sym (take-append-drop 16 c.args.buf.now))
 
 pub loop-i-preserved : goal.loop-i-preserved
-loop-i-preserved c =
+loop-i-preserved g c =
     let a = c.args in
     let e : 16 + (c.loop-i.i + 1) ≡ suc (16 + c.loop-i.i) = omega arith in (
       search rules,
@@ -25,11 +25,11 @@ loop-i-preserved c =
         kept w32 _ c.prediction.type_inv,
         c.prediction.ensures,
       )
-          (synthesis-turn a.buf.now a.a.now a.d c.loop-i.i c.loop-i.buf (omega arith) c.loop-i.invariant.3),
+          (synthesis-turn a.buf.now a.a.now g.row.ORDER c.loop-i.i c.loop-i.buf (omega arith) c.loop-i.invariant.3),
     )
 
 pub returns : goal.returns
-returns c =
+returns g c =
     let l = c.loop-i in
     let b = c.args.buf.now in
     rw (l.invariant.3, le_antisymm l.invariant.0 c.loop-i-test.false) (filled _ b (16 + (length b - 16)) (omega arith))

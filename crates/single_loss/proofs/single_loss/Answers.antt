@@ -1,118 +1,100 @@
-use Prim.Native.Nat.{ℕ, ◌≤◌}
-use mathlib.Core.Path.{◌≡◌, sym, ap, ◌∙◌, subst}
-use mathlib.Core.Bool.{Bool, true}
-use mathlib.Core.List.{List, map}
+use Prim.Native.Nat.{ℕ}
+use mathlib.Core.Path.{◌≡◌, sym, ap, ◌∙◌}
+use mathlib.Core.Bool.{Bool, not}
+use mathlib.Core.List.{List, [], ◌∷◌}
 use lib.IntN.{ℤ, pos}
-use lib.ListN.{length, take}
-use mir.Syntax.{w32}
-use mir.Val.{to_z, of_z}
 use mir.Facts.{to_z-of_z}
-use Rattle.word.proofs.Words.{kept}
-use Rattle.refusal.specs.Refusals.{refusal_number}
+use Rattle.std.specs.Prelude.{Ok}
+use Rattle.refusal.specs.First.{◌gives◌, first_of}
+use Rattle.refusal.specs.Refusals.{code_of}
+use Rattle.refusal.specs.declared.Refusal.TheVariants.{Limit}
+use Rattle.refusal.proofs.Clear.{at_err, clear}
 use Rattle.decoder.specs.Ranges.{within}
-use Rattle.decoder.specs.SetUp.{set_up_with}
-use Rattle.recording.specs.Frames.{rate_in, count_in, frames_in, recorded_at, Inside}
-use Rattle.recording.specs.Reading.{read_refusal, read_of}
+use Rattle.recording.specs.Frames.{rate_in, count_in, frames_in}
+use Rattle.recording.specs.Reading.{read_of}
 use Rattle.recording.specs.declared.Recording.{Recording}
-use Rattle.playback.specs.Playback.{plain, start_of}
+use Rattle.playback.specs.Playback.{start_of}
+use Rattle.playback.proofs.Read.{not_read, read-well, rate-back, count-back, few, lies, frames-back, frames_count, many, started, starts}
 use Rattle.culprit.specs.Search.{passes, is_culprit, first_from}
-use Rattle.single_loss.specs.declared.Answer.TheVariants.{Refused, Found}
-use Rattle.single_loss.proofs.Answers.{refusal_is, not_read, rate_is, count_is, records_60, frames-few, records_inside, frames-is, frames_count, out_of_range, already, searched}
-use borrow.Author.Rules.{rules}
-use Rattle.single_loss.proofs.single_loss.Goals.{After-post_for-s}
+use Rattle.single_loss.proofs.Answers.{refused, unread, out_of_range, passed_already, searched}
+use Rattle.single_loss.proofs.single_loss.Goals.{In_ok-r, After-passes-loud}
 use Rattle.single_loss.proofs.single_loss.Goals as goal
 
--- what is read, and is not refused
-module _ (b : List ℕ) (r : Recording) (e : r ≡ read_of b) where
-  why : r.refusal ≡ read_refusal b
-  why = ap (λ (q : Recording). q.refusal) e ∙ refusal_is b
-
-  accepted : (n : ℕ) → n ≡ refusal_number r.refusal → n ≡ 0 → refusal_number (read_refusal b) ≡ 0
-  accepted n f z = sym (f ∙ ap refusal_number why) ∙ z
-
--- the limit's range
-range_is : (l m : ℤ) (t : Bool) → t ≡ within (pos 1) (pos 32767) l → l ≡ m → within (pos 1) (pos 32767) m ≡ t
-range_is l m t e f = sym (e ∙ ap (within (pos 1) (pos 32767)) f)
-
--- the post, and the frames
-module _ (c : After-post_for-s) where
+-- the recording is read
+module _ (c : In_ok-r) where
   abbrev b : List ℕ
   b = c.args.bytes.now
 
+  is : read_of b ≡ Ok c.in_ok-r.r
+  is = sym c.read.ensures ∙ c.in_ok-r.was
+
+-- the limit's row
+row : (l m : ℤ) (t : Bool) → t ≡ within (pos 1) (pos 32767) l → l ≡ m → first_of ((not t gives Limit) ∷ []) ≡ first_of ((not (within (pos 1) (pos 32767) m) gives Limit) ∷ [])
+row l m t e f = ap (λ (s : Bool). first_of ((not s gives Limit) ∷ [])) (e ∙ ap (within (pos 1) (pos 32767)) f)
+
+-- the post is set up, and the call as recorded played
+module _ (c : After-passes-loud) where
+  abbrev p : In_ok-r
+  p = (goal.at.After-passes-loud c).In_ok-r
+
   abbrev r : Recording
-  r = c.read-r.result
+  r = c.in_ok-r.r
 
-  read-well : refusal_number (read_refusal b) ≡ 0
-  read-well = accepted b r c.read-r.ensures c.number.result c.number.ensures c.if-number-ne0.false
+  start_is : c.in_ok-s.s ≡ start_of (b p)
+  start_is = started (b p) r (is p) c.in_ok-s.s (sym c.set_up_for.ensures ∙ c.in_ok-s.was)
 
-  rate-back : to_z w32 (of_z w32 r.rate) ≡ rate_in b
-  rate-back = kept w32 r.rate c.struct_told-1.given.1.0.1 ∙ ap (λ (q : Recording). q.rate) c.read-r.ensures ∙ rate_is b read-well
+  in-range : first_of ((not (within (pos 1) (pos 32767) c.args.limit) gives Limit) ∷ []) ≡ Ok tt
+  in-range = sym (c.refuse_if.ensures ∙ row _ c.args.limit c.within.result c.within.ensures (to_z-of_z c.ranges.limit)) ∙ c.in_ok-refuse_if.was
 
-  count-back : to_z w32 (of_z w32 r.subframes) ≡ count_in b
-  count-back = kept w32 r.subframes c.struct_told-2-1.given.1.1.0.1 ∙ ap (λ (q : Recording). q.subframes) c.read-r.ensures ∙ count_is b read-well
-
-  start_is : c.post_for-s.result ≡ start_of b
-  start_is = c.post_for-s.ensures ∙ λ i. (set_up_with (rate-back i) (count-back i) plain).state
-
-  frames-back : map (recorded_at b) (take r.frames r.records) ≡ frames_in b
-  frames-back = ap (λ (q : Recording). map (recorded_at b) (take q.frames q.records)) c.read-r.ensures ∙ frames-is b read-well
-
-  many : r.frames ≡ length (frames_in b)
-  many = ap (λ (q : Recording). q.frames) c.read-r.ensures ∙ frames_count b read-well
-
-  sixty : length r.records ≡ 60
-  sixty = ap (λ (q : Recording). length q.records) c.read-r.ensures ∙ records_60 b read-well
-
-  few : r.frames ≤ length r.records
-  few = rw c.read-r.ensures (frames-few b read-well)
-
-  lies : Inside b r.records
-  lies = subst (λ (q : Recording). Inside b q.records) (sym c.read-r.ensures) (records_inside b read-well)
-
-  in_range : within (pos 1) (pos 32767) c.args.limit ≡ true
-  in_range = range_is _ c.args.limit c.within.result c.within.ensures (to_z-of_z c.ranges.limit) ∙ c.if-not-within.false
-
-  -- the call as recorded
-  as_recorded : (t : Bool) → t ≡ passes (to_z w32 (of_z w32 c.args.limit)) (to_z w32 (of_z w32 r.rate)) (to_z w32 (of_z w32 r.subframes)) c.post_for-s.result (map (recorded_at b) (take r.frames r.records))
-      → passes c.args.limit (rate_in b) (count_in b) (start_of b) (frames_in b) ≡ t
-  as_recorded t e =
+  as_recorded : c.passes-loud.result ≡ passes c.args.limit (rate_in (b p)) (count_in (b p)) (start_of (b p)) (frames_in (b p))
+  as_recorded =
       let l = to_z-of_z c.ranges.limit in
-      sym (e ∙ λ i. passes (l i) (rate-back i) (count-back i) (start_is i) (frames-back i))
+      c.passes-loud.ensures ∙ λ i. passes (l i) (rate-back (b p) r (is p) i) (count-back (b p) r (is p) i) (start_is i) (frames-back (b p) r (is p) i)
 
-pub returns-then-number-ne0 : goal.returns-then-number-ne0
-returns-then-number-ne0 c =
+pub returns-in_err-r : goal.returns-in_err-r
+returns-in_err-r c =
     let b = c.args.bytes.now in
-    let w = why b c.read-r.result c.read-r.ensures in
-    ap Refused w ∙ not_read b c.args.limit (λ e. c.if-number-ne0.true (c.number.ensures ∙ ap refusal_number w ∙ e))
+    at_err _ _ c.from_residual.ensures.1 ∙ refused b c.args.limit (unread b c.args.limit (not_read b (sym c.read.ensures ∙ c.in_err-r.was)))
 
-pub returns-then-not-within : goal.returns-then-not-within
-returns-then-not-within c =
+pub returns-in_err-refuse_if : goal.returns-in_err-refuse_if
+returns-in_err-refuse_if c =
     let b = c.args.bytes.now in
-    out_of_range b (accepted b c.read-r.result c.read-r.ensures c.number.result c.number.ensures c.if-number-ne0.false) c.args.limit
-    (range_is _ c.args.limit c.within.result c.within.ensures (to_z-of_z c.ranges.limit) ∙ c.if-not-within.true)
+    let e = is (goal.at.returns-in_err-refuse_if c).In_ok-r in
+    at_err _ _ c.from_residual-in_err-refuse_if.ensures.1
+    ∙ refused b c.args.limit (out_of_range b c.args.limit (read-well b c.in_ok-r.r e) (sym (c.refuse_if.ensures ∙ row _ c.args.limit c.within.result c.within.ensures (to_z-of_z c.ranges.limit)) ∙ c.in_err-refuse_if.was))
 
-pub slice_bounds-passes-end : goal.slice_bounds-passes-end
-slice_bounds-passes-end c = sym (sixty (goal.at.slice_bounds-passes-end c).After-post_for-s)
+pub returns-in_err-s : goal.returns-in_err-s
+returns-in_err-s c =
+    absurd (starts c.args.bytes.now c.in_ok-r.r (is (goal.at.returns-in_err-s c).In_ok-r) (sym c.set_up_for.ensures ∙ c.in_err-s.was))
 
-pub passes-requires : goal.passes-requires
-passes-requires c = let p = (goal.at.passes-requires c).After-post_for-s in (search rules, few p, lies p)
+pub shared_ref_as_front-records : goal.shared_ref_as_front-records
+shared_ref_as_front-records c =
+    few c.args.bytes.now c.in_ok-r.r (is (goal.at.shared_ref_as_front-records c).In_ok-r)
 
-pub returns-then-passes : goal.returns-then-passes
-returns-then-passes c =
-    let p = (goal.at.returns-then-passes c).After-post_for-s in
-    already c.args.bytes.now (read-well p) c.args.limit (in_range p) (as_recorded p c.passes.result c.passes.ensures ∙ c.if-passes.true)
+pub passes-loud-requires : goal.passes-loud-requires
+passes-loud-requires c =
+    lies c.args.bytes.now c.in_ok-r.r (is (goal.at.passes-loud-requires c).In_ok-r)
 
-pub slice_bounds-first_culprit-end : goal.slice_bounds-first_culprit-end
-slice_bounds-first_culprit-end c = sym (sixty (goal.at.slice_bounds-first_culprit-end c).After-post_for-s)
+pub returns-in_err-refuse_if-2 : goal.returns-in_err-refuse_if-2
+returns-in_err-refuse_if-2 c =
+    let b = c.args.bytes.now in
+    let k = (goal.at.returns-in_err-refuse_if-2 c).After-passes-loud in
+    let e = is (goal.at.returns-in_err-refuse_if-2 c).In_ok-r in
+    at_err _ _ c.from_residual-in_err-refuse_if-2.ensures.1
+    ∙ refused b c.args.limit (passed_already b c.args.limit (read-well b c.in_ok-r.r e) (in-range k) (ap (λ (t : Bool). first_of ((t gives Limit) ∷ [])) (sym (as_recorded k)) ∙ sym c.refuse_if-2.ensures ∙ c.in_err-refuse_if-2.was))
 
-pub first_culprit-culprit-requires : goal.first_culprit-culprit-requires
-first_culprit-culprit-requires c =
-    let p = (goal.at.first_culprit-culprit-requires c).After-post_for-s in
-    (few p, lies p, sym c.passes.ensures ∙ c.if-passes.false)
+pub first_culprit-found-requires : goal.first_culprit-found-requires
+first_culprit-found-requires c =
+    let q : first_of ((c.passes-loud.result gives Limit) ∷ []) ≡ Ok tt = sym c.refuse_if-2.ensures ∙ c.in_ok-refuse_if-2.was in
+    (lies c.args.bytes.now c.in_ok-r.r (is (goal.at.first_culprit-found-requires c).In_ok-r), sym c.passes-loud.ensures ∙ (clear ((c.passes-loud.result gives Limit) ∷ []) (ap code_of q)).0)
 
 pub returns : goal.returns
 returns c =
-    let p = (goal.at.returns c).After-post_for-s in
+    let b = c.args.bytes.now in
     let l = to_z-of_z c.ranges.limit in
-    ap Found (c.first_culprit-culprit.ensures ∙ λ i. first_from (is_culprit (l i) (rate-back p i) (count-back p i) (start_is p i) (frames-back p i)) 0 (many p i))
-    ∙ searched c.args.bytes.now (read-well p) c.args.limit (in_range p) (as_recorded p c.passes.result c.passes.ensures ∙ c.if-passes.false)
+    let k = (goal.at.returns c).After-passes-loud in
+    let e = is (goal.at.returns c).In_ok-r in
+    let r = c.in_ok-r.r in
+    let n = many b r e ∙ frames_count b r e in
+    ap Ok (c.first_culprit-found.ensures ∙ λ i. first_from (is_culprit (l i) (rate-back b r e i) (count-back b r e i) (start_is k i) (frames-back b r e i)) 0 (n i))
+    ∙ searched b c.args.limit (read-well b r e) (in-range k) (ap (λ (t : Bool). first_of ((t gives Limit) ∷ [])) (sym (as_recorded k)) ∙ sym c.refuse_if-2.ensures ∙ c.in_ok-refuse_if-2.was)

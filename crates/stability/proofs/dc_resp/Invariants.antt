@@ -1,11 +1,8 @@
-use Prim.Native.Nat.{◌-◌, ◌*◌, ◌≤◌}
+use Prim.Native.Nat.{◌*◌, ◌≤◌}
 use mathlib.Core.Path.{◌≡◌}
 use lib.IntN.{nat_abs}
 use Rattle.stability.specs.Stability.{total}
 use Rattle.stability.proofs.dc_resp.Given as goal
 
-abbrev pub invariant-loop-k : goal.invariant-loop-k
-invariant-loop-k l = (l.k ≤ l.order) × (nat_abs (total l.a l.k) ≤ 32768 * l.k) × (l.sum ≡ total l.a l.k)
-
-abbrev pub decreases-loop-k : goal.decreases-loop-k
-decreases-loop-k l = l.order - l.k
+abbrev pub invariant-loop-x : goal.invariant-loop-x
+invariant-loop-x l = (nat_abs (total l.a l.x-index) ≤ 32768 * l.x-index) × (l.sum ≡ total l.a l.x-index)

@@ -71,4 +71,4 @@ returns c =
     let p = begun (goal.at.returns c).Else-not-is_stream in
     let e = c.samples_of-samples.ensures.0 in
     let l = lt-ltb (36 + 2 * samples_of c.args.header.now) 4294967296 (omega arith) in
-    rw (p.0, p.1, rated (goal.at.returns c).Else-not-is_rate, counted (goal.at.returns c).Else-not-is_count, l, e, c.u32_at.ensures)
+    rw (p.0, p.1, rated (goal.at.returns c).Else-not-is_rate, counted (goal.at.returns c).Else-not-is_count, l, e, c.at.ensures)

@@ -1,15 +1,10 @@
-use mathlib.Core.Path.{refl}
+use mathlib.Core.Path.{◌∙◌}
+use mir.Syntax.{w32}
 use mir.Facts.{to_z-of_z}
-use Rattle.word.specs.Int.{max_ℤ}
-use Rattle.word.proofs.Order.{lt_read}
+use Rattle.word.proofs.Words.{got}
+use Rattle.word.proofs.Names.{max_is}
 use Rattle.word.proofs.max32.Goals as goal
 
-pub returns-then-a-b : goal.returns-then-a-b
-unfolding max_ℤ
-returns-then-a-b c =
-    rw (to_z-of_z c.ranges.a, lt_read c.ranges.b c.ranges.a c.if-a-b.true) refl
-
-pub returns-else-a-b : goal.returns-else-a-b
-unfolding max_ℤ
-returns-else-a-b c =
-    rw (to_z-of_z c.ranges.b, lt_read c.ranges.b c.ranges.a c.if-a-b.false) refl
+pub returns : goal.returns
+returns c =
+    got w32 c.max.type_inv (c.max.ensures.value ∙ rw (to_z-of_z c.ranges.a, to_z-of_z c.ranges.b) (max_is c.args.a c.args.b))

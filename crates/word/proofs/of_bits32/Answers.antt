@@ -1,8 +1,8 @@
-use native.Mathlib.Omega.{arith}
-use mir.Syntax.{w32, w64}
-use mir.Facts.{to_z_pos}
-use Rattle.word.proofs.Words.{kept}
+use mathlib.Core.Path.{◌∙◌}
+use mir.Syntax.{w32}
+use Rattle.word.proofs.Words.{got}
+use Rattle.word.proofs.Names.{signed_is}
 use Rattle.word.proofs.of_bits32.Goals as goal
 
 pub returns : goal.returns
-returns c = cc (kept w32 c.low32.result c.low32.type_inv, to_z_pos w64 {n = c.args.u} (omega arith))
+returns c = got w32 c.cast_signed.type_inv (c.cast_signed.ensures ∙ signed_is w32 c.args.u c.ranges.u.fits)

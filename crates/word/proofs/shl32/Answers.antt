@@ -1,14 +1,14 @@
 use Prim.Native.Nat.{◌^◌}
-use mathlib.Core.Path.{refl}
-use lib.Dec.{lit<}
+use mathlib.Core.Path.{refl, ◌∙◌}
 use mir.Syntax.{w32}
+use mir.Facts.{to_z-of_z}
 use Rattle.word.specs.Int.{mod_ℤ}
-use Rattle.word.proofs.Mod.{mod_ℤ_lt}
-use Rattle.word.proofs.Words.{amount, shl_back}
+use Rattle.word.proofs.Words.{got, low_bits, shl_back}
 use Rattle.word.proofs.shl32.Goals as goal
 
-pub overflow_shl-result : goal.overflow_shl-result
-overflow_shl-result c = rw (amount w32 27 5 c.args.s refl c.ranges.s) (mod_ℤ_lt c.args.s 32 (lit< tt))
-
 pub returns : goal.returns
-returns c = rw (amount w32 27 5 c.args.s refl c.ranges.s) (shl_back w32 c.args.x (2 ^ mod_ℤ c.args.s 32) c.ranges.x)
+returns c =
+    got w32 c.wrapping_shl.type_inv
+    (c.wrapping_shl.ensures
+    ∙ rw (c.cast_unsigned.ensures, to_z-of_z c.ranges.x, to_z-of_z c.ranges.s, low_bits w32 27 5 c.args.s refl c.ranges.s)
+    (shl_back w32 c.args.x (2 ^ mod_ℤ c.args.s 32) c.ranges.x))

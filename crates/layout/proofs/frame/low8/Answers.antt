@@ -1,21 +1,15 @@
-use mathlib.Core.Path.{refl, ◌∙◌}
-use mir.Syntax.{w8, w16}
-use mir.Val.{SFits}
-use mir.Facts.{to_z-of_z}
-use Rattle.word.specs.Int.{wrap, wrap16}
-use Rattle.word.proofs.Words.{low_fits, low-back, mod_wrap_low, wrap_cong}
-use Rattle.layout.proofs.frame.low8.Goals.{After-low16-h}
+use mathlib.Core.Path.{refl, ap, ◌∙◌}
+use Prim.Native.Nat.{ℕ}
+use lib.IntN.{nat_abs}
+use mir.Syntax.{w8, w32}
+use mir.Val.{to_z}
+use Rattle.word.specs.Int.{wrap}
+use Rattle.word.proofs.Words.{kept, low_word}
 use Rattle.layout.proofs.frame.low8.Goals as goal
 
-half : (c : After-low16-h) → SFits w16 c.low16-h.result
-half c = record { sfits = c.low16-h.type_inv }
-
-pub overflow_cast-result : goal.overflow_cast-result
-overflow_cast-result c = low_fits w8 w16 refl refl c.low16-h.result (half c)
-
 pub returns : goal.returns
+unfolding wrap
 returns c =
-    let x = c.args.x in
-    low-back w8 w16 refl refl c.low16-h.result (half c)
-    ∙ (λ i. wrap w8 ((c.low16-h.ensures ∙ λ j. wrap16 (to_z-of_z c.ranges.x j)) i))
-    ∙ wrap_cong w8 (wrap16 x) x (mod_wrap_low w16 8 8 x refl)
+    kept w8 _ c.cast_signed.type_inv
+    ∙ c.cast_signed.ensures
+    ∙ ap (λ (n : ℕ). to_z w8 n) (ap nat_abs (low_word w32 w32 24 8 c.args.x refl tt c.ranges.x))

@@ -1,38 +1,45 @@
-use mathlib.Core.Path.{◌≡◌, refl, sym, ◌∙◌}
-use mathlib.Core.Bool.{true}
+use mathlib.Core.Path.{◌≡◌, refl, ◌∙◌}
+use mathlib.Core.Bool.{Bool, true, false}
 use native.Mathlib.Omega.{arith}
-use borrow.Author.Tests.{leb-true}
+use borrow.Author.Tests.{leb-true, le-leb}
 use lib.Dec.{leb}
 use lib.IntN.{ℤ, pos, negsuc}
 use mir.Syntax.{w8}
 use mir.Val.{SFits}
 use mir.Facts.{to_z-of_z}
-use Rattle.word.proofs.Words.{back, back_fits}
+use Rattle.std.specs.Prelude.{Result, Ok, Err, OkIff}
+use Rattle.std.specs.Result.{result_unwrap_or}
+use Rattle.word.proofs.Words.{kept}
 use Rattle.word.proofs.Rows.{both}
 use Rattle.decoder.specs.Ranges.{within}
 use Rattle.layout.specs.Frame.{small}
-use Rattle.layout.proofs.frame.small.Goals.{After-within}
 use Rattle.layout.proofs.frame.small.Goals as goal
 
--- what lies in -128 to 127 is a number of 8 bits
+-- what lies in -128 to 127 is a number of 8 bits, and the other way round
 eight : (z : ℤ) → within (negsuc 127) (pos 127) z ≡ true → SFits w8 z
 unfolding within
 eight (pos n) e = record { sfits = omega (arith, leb-true n 127 e) }
 eight (negsuc n) e = record { sfits = omega (arith, leb-true n 127 (both (leb n 127) true e).0) }
 
-tested : (c : After-within) → c.within.result ≡ within (negsuc 127) (pos 127) c.args.z
-tested c = rw (to_z-of_z c.ranges.z) at c.within.ensures
+inside : (z : ℤ) → SFits w8 z → within (negsuc 127) (pos 127) z ≡ true
+unfolding within
+inside (pos n) f = le-leb n 127 (omega (arith, f.sfits))
+inside (negsuc n) f = rw (le-leb n 127 (omega (arith, f.sfits))) refl
 
-pub overflow_cast-result : goal.overflow_cast-result
-overflow_cast-result c =
-    back_fits c.ranges.z (eight c.args.z (sym (tested c.before) ∙ c.if-within.true)) refl
+outside : (z : ℤ) → (SFits w8 z → ⊥) → within (negsuc 127) (pos 127) z ≡ false
+outside z h = go (within (negsuc 127) (pos 127) z) refl
+  where
+    go : (b : Bool) → within (negsuc 127) (pos 127) z ≡ b → within (negsuc 127) (pos 127) z ≡ false
+    go true e = absurd (h (eight z e))
+    go false e = e
 
-pub returns-then-within : goal.returns-then-within
+taken : {E : Type 0} (r : Result ℤ E) (z : ℤ) → OkIff r (SFits w8 z) z → result_unwrap_or r (negsuc 0) ≡ small z
 unfolding small
-returns-then-within c =
-    let e = sym (tested c.before) ∙ c.if-within.true in
-    rw e (back (eight c.args.z e) (to_z-of_z c.ranges.z))
+taken (Ok x) z h = rw (inside z h.0) h.1
+taken (Err e) z h = rw (outside z h) refl
 
 pub returns : goal.returns
-unfolding small
-returns c = rw (sym (tested c.before) ∙ c.if-within.false)
+returns c =
+    let z = c.args.z in
+    let t = rw (to_z-of_z c.ranges.z) at c.try_from.ensures in
+    kept w8 _ c.unwrap_or.type_inv ∙ c.unwrap_or.ensures ∙ taken c.try_from.result z t

@@ -24,7 +24,7 @@ loop-j-preserved c =
       search rules,
       search rules,
       search rules,
-      turn a.taps _ c.loop-j.j c.loop-j.b _ (omega arith) c.loop-j.invariant.4 (got w16 c.faded.type_inv (c.faded.ensures ∙ rw (kept w16 (get_or a.taps c.loop-j.j (pos 0)) c.faded-arg-1.given))),
+      turn a.taps _ c.loop-j.j c.loop-j.x-items _ (omega arith) c.loop-j.invariant.4 (got w16 c.faded.type_inv (c.faded.ensures ∙ rw (kept w16 (get_or a.taps c.loop-j.j (pos 0)) c.faded-arg-1.given))),
     )
 
 pub returns : goal.returns

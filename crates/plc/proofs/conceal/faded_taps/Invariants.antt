@@ -1,4 +1,4 @@
-use Prim.Native.Nat.{ℕ, ◌≤◌, ◌-◌}
+use Prim.Native.Nat.{ℕ, ◌≤◌}
 use mathlib.Core.Path.{◌≡◌}
 use mathlib.Core.List.{◌++◌}
 use lib.IntN.{pos}
@@ -9,8 +9,5 @@ use Rattle.plc.proofs.conceal.faded_taps.Given as goal
 
 abbrev pub invariant-loop-j : goal.invariant-loop-j
 invariant-loop-j l =
-    (l.j ≤ 5) × (length l.b ≡ 5) × (length l.taps ≡ 5) × (length l.initial.b ≡ 5)
-    × (l.b ≡ tabulate l.j (λ (k : ℕ). faded l.gain (get_or l.taps k (pos 0))) ++ drop l.j l.initial.b)
-
-abbrev pub decreases-loop-j : goal.decreases-loop-j
-decreases-loop-j l = 5 - l.j
+    (l.j ≤ 5) × (length l.x-items ≡ 5) × (length l.taps ≡ 5) × (length l.initial.x-items ≡ 5)
+    × (l.x-items ≡ tabulate l.j (λ (k : ℕ). faded l.gain (get_or l.taps k (pos 0))) ++ drop l.j l.initial.x-items)

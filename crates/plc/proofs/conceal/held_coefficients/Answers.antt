@@ -7,6 +7,6 @@ pub returns-then-first_frame_after_reset-eq0 : goal.returns-then-first_frame_aft
 returns-then-first_frame_after_reset-eq0 c =
     rw (is w32 _ 0 (lit< tt) c.ranges.first_frame_after_reset c.if-first_frame_after_reset-eq0.true)
 
-pub returns : goal.returns
-returns c =
-    rw (isnt w32 c.args.first_frame_after_reset 0 c.if-first_frame_after_reset-eq0.false) c.no_coefficients.ensures
+pub returns-else-first_frame_after_reset-eq0 : goal.returns-else-first_frame_after_reset-eq0
+returns-else-first_frame_after_reset-eq0 c =
+    rw (isnt w32 c.args.first_frame_after_reset 0 c.if-first_frame_after_reset-eq0.false)

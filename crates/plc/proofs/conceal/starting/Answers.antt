@@ -10,7 +10,7 @@ pub returns : goal.returns
 unfolding noise_scale
 returns c =
     let h = c.args.h in
-    let t = c.struct_told-3-1.given in
+    let t = c.struct_told-2-1.given in
     let e : to_z w16 (of_z w16 c.noise_scale.result) ≡ noise_scale c.args.loss_cnt c.args.prev_signal_type h =
     got w16 c.noise_scale.type_inv c.noise_scale.ensures
     ∙ rw (to_z-of_z c.ranges.loss_cnt, to_z-of_z c.ranges.prev_signal_type, kept w16 h.rand_scale_q14 t.1.1.1.1.1.0.1, kept w16 h.prev_ltp_scale_q14 t.1.1.1.1.1.1.1.1.0.1) in

@@ -56,8 +56,8 @@ returns c =
     let w = excited_times exc a.from lag (5 * r) v in
     let u = kept w32 c.lag_of-lag.result c.lag_of-lag.type_inv in
     let e1 = rw (u, lag_is (goal.at.returns c).After-lag_of-lag, sub (goal.at.returns c).After-subfr_length) at c.excite-seed.ensures.1 in
-    let e2 : c.faded_taps-taps.result ≡ map (faded a.harm_gain_q15) w.taps =
-    c.faded_taps-taps.ensures ∙ rw (to_z-of_z c.ranges.harm_gain_q15, times_taps exc a.from lag (5 * r) v) in
+    let e2 : c.faded_taps.result ≡ map (faded a.harm_gain_q15) w.taps =
+    c.faded_taps.ensures ∙ rw (to_z-of_z c.ranges.harm_gain_q15, times_taps exc a.from lag (5 * r) v) in
     let e3 : to_z w16 (of_z w16 c.faded.result) ≡ faded a.rand_gain_q15 w.scale =
     got w16 c.faded.type_inv c.faded.ensures ∙ rw (to_z-of_z c.ranges.rand_gain_q15, kept w16 k.scale_q14 c.struct_told-2-1.given.1.0.1, times_scale exc a.from lag (5 * r) v) in
     let e4 : to_z w32 (of_z w32 c.drifted.result) ≡ min_ℤ (smlawb w.pitch w.pitch (pos 655)) (pos (4608 * r)) =

@@ -17,7 +17,7 @@ use Rattle.plc.proofs.update.heard.Goals as goal
 
 pub loop-i-init : goal.loop-i-init
 unfolding tabulate
-loop-i-init c = (search rules, refl, refl, refl)
+loop-i-init c = (search rules, c.requires, refl, refl)
 
 pub loop-i-preserved : goal.loop-i-preserved
 loop-i-preserved c =
@@ -36,7 +36,7 @@ returns c =
     let g = kept w32 _ c.shr32-gain_q10.type_inv ∙ c.shr32-gain_q10.ensures in
     rw (
       c.loop-i.invariant.3,
-      le_antisymm c.loop-i.invariant.0 c.loop-i-test.false,
+      le_antisymm c.loop-i.invariant.0 c.loop-i-test.false ∙ c.requires,
       g,
       to_z-of_z c.ranges.gain_q16,
       filled (tabulate (length exc) (λ (k : ℕ). by (floor_div c.args.gain_q16 (2 ^ 6)) (get_or exc k (pos 0)))) c.args.part.now (length exc) (omega arith),

@@ -1,4 +1,4 @@
-use Prim.Native.Nat.{ℕ, ◌≤◌, ◌-◌, ◌^◌}
+use Prim.Native.Nat.{ℕ, ◌≤◌, ◌^◌}
 use mathlib.Core.Path.{◌≡◌}
 use mathlib.Core.List.{◌++◌}
 use lib.IntN.{ℤ, pos}
@@ -14,8 +14,5 @@ by gain e = sat16 (floor_div (smulww e gain) (2 ^ 8))
 
 abbrev pub invariant-loop-i : goal.invariant-loop-i
 invariant-loop-i l =
-    (l.i ≤ l.i-end) × (l.i-end ≡ length l.exc) × (length l.part ≡ length l.initial.part)
+    (l.i ≤ length l.initial.part) × (length l.initial.part ≡ length l.exc) × (length l.part ≡ length l.initial.part)
     × (l.part ≡ tabulate l.i (λ (k : ℕ). by l.gain_q10 (get_or l.exc k (pos 0))) ++ drop l.i l.initial.part)
-
-abbrev pub decreases-loop-i : goal.decreases-loop-i
-decreases-loop-i l = l.i-end - l.i

@@ -4,7 +4,8 @@ use mathlib.Core.List.{◌++◌}
 use native.Mathlib.Nat.{add-sub_cancel_left}
 use native.Mathlib.Omega.{arith}
 use borrow.Author.Rules.{rules}
-use lib.ListN.{length, take, drop, length-drop, length-append}
+use lib.IntN.{pos}
+use lib.ListN.{replicate, length, take, drop, length-drop, length-append}
 use lib.Seq.{length-take-le, take_at}
 use mir.Facts.{to_z-of_z}
 use Rattle.sigproc.specs.Energy.{sum_sqr_shift}
@@ -13,7 +14,7 @@ use Rattle.plc.proofs.Noise.{length-heard_by}
 use Rattle.plc.proofs.update.heard_energy.Goals.{After-heard, After-heard-arg-1, After-part-1, After-part-3-1}
 use Rattle.plc.proofs.update.heard_energy.Goals as goal
 
-room : (c : After-part-1) → let a = c.args in length (take a.l c.zeros80-part.result) ≡ a.l
+room : (c : After-part-1) → let a = c.args in length (take a.l (replicate 80 (pos 0))) ≡ a.l
 room c = length-take-le _ _ (search rules)
 
 -- the subframe
@@ -27,14 +28,14 @@ made c = ap length c.heard.ensures ∙ length-heard_by _ _ ∙ sub c.before
 
 -- the part that was written
 written : (c : After-part-3-1) → let a = c.args in
-    take a.l (c.heard.new.part ++ drop a.l c.zeros80-part.result) ≡ heard_by a.gain_q16 (take a.l (drop a.at a.exc.now))
+    take a.l (c.heard.new.part ++ drop a.l (replicate 80 (pos 0))) ≡ heard_by a.gain_q16 (take a.l (drop a.at a.exc.now))
 written c =
     take_at c.heard.new.part _ c.args.l (made c.before.before)
     ∙ c.heard.ensures
     ∙ rw (to_z-of_z c.ranges.gain_q16, add-sub_cancel_left c.args.at c.args.l)
 
 long : (c : After-part-3-1) → let a = c.args in
-    length (take a.l (c.heard.new.part ++ drop a.l c.zeros80-part.result)) ≡ a.l
+    length (take a.l (c.heard.new.part ++ drop a.l (replicate 80 (pos 0)))) ≡ a.l
 long c = length-take-le _ _ (simp length-append (omega (arith, made c.before.before)))
 
 pub slice_bounds-heard-end : goal.slice_bounds-heard-end

@@ -12,8 +12,8 @@ use Rattle.plc.proofs.update.plc_update.Goals as goal
 nb : (c : After-struct_told-2-1) → let s = c.args.s in to_z w32 (of_z w32 s.nb_subfr) ≡ s.nb_subfr
 nb c = kept w32 _ c.struct_told-2-1.given.1.1.1.1.1.1.0.1
 
-pub received-p-requires : goal.received-p-requires
-received-p-requires c = rw (nb (goal.at.received-p-requires c).After-struct_told-2-1) c.requires
+pub received-t-requires : goal.received-t-requires
+received-t-requires c = rw (nb (goal.at.received-t-requires c).After-struct_told-2-1) c.requires
 
 pub returns : goal.returns
 unfolding plc_update
@@ -22,5 +22,5 @@ returns c =
     let s = a.s in
     let khz = kept w32 s.fs_khz c.struct_told-1.given.1.1.1.1.1.0.1 in
     let type = got w32 c.type_number.type_inv c.type_number.ensures in
-    let plc : c.received-p.result ≡ updated_by (shape_of s) a.signal a.c a.rows s.s_plc = rw (c.received-p.ensures, khz, nb (goal.at.returns c).After-struct_told-2-1) in
+    let plc : c.received-t.result ≡ updated_by (shape_of s) a.signal a.c a.rows s.s_plc = rw (c.received-t.ensures, khz, nb (goal.at.returns c).After-struct_told-2-1) in
     λ i. with_plc (with_type s (type i)) (plc i)

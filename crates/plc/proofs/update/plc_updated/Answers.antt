@@ -44,11 +44,11 @@ found c =
 pub pulse_of-b-requires : goal.pulse_of-b-requires
 pulse_of-b-requires c = omega (arith, few (goal.at.pulse_of-b-requires c).After-count_of-n, some (goal.at.pulse_of-b-requires c).After-count_of-n)
 
-pub with_front-coefs-requires : goal.with_front-coefs-requires
-with_front-coefs-requires c = rw (order (goal.at.with_front-coefs-requires c).After-lpc_order) (order_le _)
+pub with_front-t-requires : goal.with_front-t-requires
+with_front-t-requires c = rw (order (goal.at.with_front-t-requires c).After-lpc_order) (order_le _)
 
-pub last_gains-last-requires : goal.last_gains-last-requires
-last_gains-last-requires c = (some (goal.at.last_gains-last-requires c).After-count_of-n, few (goal.at.last_gains-last-requires c).After-count_of-n)
+pub last_gains-t-requires : goal.last_gains-t-requires
+last_gains-t-requires c = (some (goal.at.last_gains-t-requires c).After-count_of-n, few (goal.at.last_gains-t-requires c).After-count_of-n)
 
 pub overflow_cast-t : goal.overflow_cast-t
 overflow_cast-t c = record { sfits = omega (arith, few (goal.at.overflow_cast-t c).After-count_of-n) }
@@ -64,10 +64,10 @@ returns c =
     let f = found (goal.at.returns c).After-pulse_of-b in
     let pitch = kept w32 b.pitch c.struct_told-3-1.given.1.0.1 ∙ ap (λ (x : Pulse). x.pitch) f in
     let tap = kept w16 b.tap c.struct_told-2-1.given.0.1 ∙ ap (λ (x : Pulse). x.tap) f in
-    let taps = c.middle-taps.ensures ∙ ap middle tap in
-    let lpc = c.with_front-coefs.ensures ∙ ap (λ (d : ℕ). take d c.args.row ++ drop d h.prev_lpc_q12) (order (goal.at.returns c).After-lpc_order) in
+    let taps = c.middle-t.ensures ∙ ap middle tap in
+    let lpc = c.with_front-t.ensures ∙ ap (λ (d : ℕ). take d c.args.row ++ drop d h.prev_lpc_q12) (order (goal.at.returns c).After-lpc_order) in
     let scale = got w16 c.low16.type_inv (c.low16.ensures ∙ ap wrap16 (kept w32 c.args.c.ltp_scale_q14 c.struct_told-4-1.given.1.1.1.0.1)) in
-    let gains = c.last_gains-last.ensures ∙ ap (λ (n : ℕ). get_or c.args.c.gains_q16 (n - 2) (pos 0) ∷ get_or c.args.c.gains_q16 (n - 1) (pos 0) ∷ []) (count (goal.at.returns c).After-count_of-n) in
+    let gains = c.last_gains-t.ensures ∙ ap (λ (n : ℕ). get_or c.args.c.gains_q16 (n - 2) (pos 0) ∷ get_or c.args.c.gains_q16 (n - 1) (pos 0) ∷ []) (count (goal.at.returns c).After-count_of-n) in
     let n = to_z_pos w32 {n = c.count_of-n.result} (omega (arith, few (goal.at.returns c).After-count_of-n)) ∙ ap pos (count (goal.at.returns c).After-count_of-n) in
     let len = to_z_pos w32 {n = c.subfr_length.result} (omega (arith, short (goal.at.returns c).After-subfr_length)) ∙ ap pos (sub (goal.at.returns c).After-subfr_length) in
     λ i. hold h (pitch i) (taps i) (lpc i) h.rand_seed h.rand_scale_q14 (scale i) (gains i) h.fs_khz (n i) (len i)

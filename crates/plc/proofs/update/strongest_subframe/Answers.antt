@@ -44,7 +44,7 @@ loop-j-preserved c =
         to_z_pos w32 {n = c.loop-j.j * c.subfr_length-l.result} (omega arith),
         c.subfr_length-l.ensures,
         kept w32 (get_or a.lags.now (a.subframes - 1) (pos 0)) c.last-1.given,
-        got w32 c.tap_sum.type_inv c.tap_sum.ensures,
+        got w32 c.tap_sum.type_inv c.tap_sum.ensures.0,
         kept w32 (get_or a.lags.now (a.subframes - 1 - c.loop-j.j) (pos 0)) c.stronger-arg-1.given,
         c.loop-j.invariant.1,
       ),

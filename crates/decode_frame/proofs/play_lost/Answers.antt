@@ -1,0 +1,74 @@
+use mathlib.Core.Path.{◌≡◌, sym, ap, ◌∙◌, subst}
+use mathlib.Core.List.{[]}
+use native.Mathlib.Omega.{arith}
+use lib.ListN.{length}
+use lib.Seq.{length-take-le}
+use mir.Facts.{to_z-of_z}
+use Rattle.refusal.proofs.Clear.{accepted}
+use Rattle.shape.specs.Shape.{shape, frame_length}
+use Rattle.decoder.specs.Settings.{squelched}
+use Rattle.decoder.specs.Reshape.{reshaped_by, reshaped}
+use Rattle.decoder.specs.State.{shape_of}
+use Rattle.decoder.specs.declared.SilkDecoderState.{SilkDecoderState}
+use Rattle.decoder.specs.declared.Frame.TheVariants.{Lost}
+use Rattle.judge.proofs.Bounds.{LostFits, lost-fits}
+use Rattle.decode_frame.specs.WholeFrame.{lost, muted, whole_frame}
+use Rattle.decode_frame.specs.Call.{frame_call}
+use Rattle.decode_frame.specs.Answer.{frame_refusal}
+use Rattle.decode_frame.proofs.Answers.{played-answer}
+use Rattle.decode_frame.proofs.play_lost.Goals.{After-reshaped-t}
+use Rattle.decode_frame.proofs.play_lost.Goals as goal
+
+-- the frame's length
+samples : (c : After-reshaped-t) → let a = c.args in c.frame_length-n.result ≡ frame_length (shape a.khz a.nb_subfr)
+samples c =
+    let f = c.ranges in
+    c.frame_length-n.ensures ∙ λ i. frame_length (shape (to_z-of_z f.khz i) (to_z-of_z f.nb_subfr i))
+
+-- the state as the coming shape leaves it
+moved : (c : After-reshaped-t) → let a = c.args in c.reshaped-t.result ≡ reshaped a.khz a.nb_subfr a.s
+moved c =
+    c.reshaped-t.ensures ∙ λ i. reshaped (to_z-of_z c.ranges.khz i) (to_z-of_z c.ranges.nb_subfr i) c.args.s
+
+-- what no refusal says of the frame
+fit : (c : After-reshaped-t) → LostFits c.reshaped-t.result (length c.args.xq.now)
+unfolding frame_refusal
+fit c =
+    let a = c.args in
+    let n = length a.xq.now in
+    subst (λ (t : SilkDecoderState). LostFits t n) (sym (moved c)) (lost-fits a.khz a.nb_subfr a.s n c.requires)
+
+whole : (c : After-reshaped-t) → c.frame_length-n.result ≡ frame_length (shape_of c.reshaped-t.result)
+unfolding reshaped reshaped_by
+whole c = samples c ∙ sym (ap (λ (t : SilkDecoderState). frame_length (shape_of t)) (moved c))
+
+pub slice_bounds-lost-end : goal.slice_bounds-lost-end
+slice_bounds-lost-end c =
+    let o = (goal.at.slice_bounds-lost-end c).After-reshaped-t in
+    let w = whole o in
+    let h = (fit o).output_lent in
+    omega (arith, w, h)
+
+pub slice_bounds-lost-end-2 : goal.slice_bounds-lost-end-2
+slice_bounds-lost-end-2 c =
+    let o = (goal.at.slice_bounds-lost-end-2 c).After-reshaped-t in
+    let w = whole o in
+    let h = (fit o).output_lent in
+    sym (length-take-le _ _ (omega (arith, w, h)))
+
+pub lost-requires : goal.lost-requires
+lost-requires c =
+    let o = (goal.at.lost-requires c).After-reshaped-t in
+    let f = fit o in
+    let l = whole o in
+    let h = f.output_lent in
+    (f.accepted, f.not_full, length-take-le _ _ (omega (arith, l, h)) ∙ l)
+
+pub returns : goal.returns
+unfolding whole_frame reshaped reshaped_by
+returns c =
+    let o = (goal.at.returns c).After-reshaped-t in
+    let a = c.args in
+    played-answer a.s (frame_call a.khz a.nb_subfr Lost a.c [] [] [] a.xq.now) (sym (accepted _ c.requires)) _ _
+    (c.lost.ensures ∙ ap (λ (t : SilkDecoderState). muted (shape_of t) (squelched t) (lost (shape_of t) t a.c)) (moved o))
+    (samples o)
