@@ -19,7 +19,8 @@ unfoldable pub is_among : ℕ → List ℕ → Bool
 is_among k [] = false
 is_among k (x ∷ xs) = eqb k x || is_among k xs
 
--- the records of a chain's frames, in order, or none for a chain that is broken: from record i on, where `met` are the frames' records before, and `left` records are neither record 0 nor among them:
+-- a chain from record i on: all its frames' records, in order, or none where it is broken
+-- `met` are the frames' records so far, and `left` counts the records that are neither record 0 nor among them
 -- a next number of 0 ends the chain, and one past the end or met before breaks it (with none left it is one or the other)
 unfoldable pub chain_from : List ℕ → ℕ → List ℕ → ℕ → Option (List ℕ)
 chain_from b zero met i = cond (eqb (next_of b i) 0) (Some met) None

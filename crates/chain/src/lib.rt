@@ -8,30 +8,26 @@ ghost use Rattle.chain.specs.Claims.{ChainMeans, FewFrames};
 
 use le::Word;
 
-// The records of a chain's frames, in order.
+// The records of a chain's frames, in order. No heap: an array of the most records that there are, and their count.
 #[derive(Clone, Copy)]
 pub struct Order {
     pub frames: usize,
     pub records: [u8; 60],
 }
 
+#[tactic(auto, unfolding(crate::specs::Chain::is_whole))]
 pub fn is_whole(n: usize) -> bool
     ensures { result ≡ is_whole n }
 {
     (n % 1024 == 0) & (0 < n / 1024) & (n / 1024 <= 60)
 }
 
-pub fn wide8(x: u8) -> usize
-    ensures { (result ≡ x) × (result < 256) }
-{
-    x as usize
-}
-
+#[tactic(auto, unfolding(crate::specs::Chain::next_of))]
 fn next_of(bytes: &[u8], i: usize) -> usize
-    requires { (i < 60) × (1024 * i + 1024 ≤ length bytes.now) }
+    requires { (i < 60) × (1024 * i + 2 ≤ length bytes.now) }
     ensures { result ≡ next_of bytes.now i }
 {
-    u16::at(bytes, 1024 * i) as usize
+    usize::from(u16::at(bytes, 1024 * i))
 }
 
 // None where the chain is broken.
@@ -42,6 +38,7 @@ pub fn chain(bytes: &[u8]) -> Option<Order>
     let n = bytes.len() / 1024;
     let mut records = [0; 60];
     let mut at = 0;
+    // k counts the frames: the loop goes along the chain, over no slice's elements.
     for k in 0..n {
         let next = next_of(bytes, at);
         if next == 0 {
@@ -64,6 +61,7 @@ pub fn chain(bytes: &[u8]) -> Option<Order>
 
 // The chain is broken exactly by a number past the end or met before, and reaches at most every record once. The claims have no code: each is a
 // contract.
+#[tactic(auto, using(crate::proofs::Chains::chain_means, crate::proofs::Chains::few))]
 pub fn chain_means()
     ensures { ChainMeans × FewFrames }
 {}

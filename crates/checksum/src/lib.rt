@@ -2,34 +2,10 @@
 // Inner: every function.
 #![tactic(auto)]
 
-ghost use Rattle.std.specs.Prelude.{◌≡◌, ℤ};
+ghost use Rattle.std.specs.Prelude.{◌≡◌};
 ghost use Rattle.checksum.specs.Sum.{mixed, sum_of};
 
-use word::{add32, mul32};
-
-// A number of up to 32 bits.
-pub trait Number: Copy {
-    ghost number: { Self → ℤ };
-
-    fn number(self) -> i32
-        ensures { result ≡ number self };
-}
-
-impl Number for i16 {
-    ghost number = { λ x. x };
-
-    fn number(self) -> i32 {
-        i32::from(self)
-    }
-}
-
-impl Number for i32 {
-    ghost number = { λ x. x };
-
-    fn number(self) -> i32 {
-        self
-    }
-}
+use word::{Number, add32, mul32};
 
 fn mixed(h: i32, x: i32) -> i32
     ensures { result ≡ mixed h x }

@@ -1,17 +1,17 @@
 -- The numbers of a step.
-use Prim.Native.Nat.{ℕ, zero, suc, ◌+◌, ◌-◌, ◌*◌, ◌/◌, ◌^◌, ◌<◌, ◌≤◌}
+use Prim.Native.Nat.{ℕ, min, zero, suc, ◌+◌, ◌-◌, ◌*◌, ◌/◌, ◌^◌, ◌<◌, ◌≤◌}
 use mathlib.Core.Path.{◌≡◌, refl, sym, ap, ◌∙◌}
-use mathlib.Core.Bool.{cond}
+use mathlib.Core.Logic.{inl, inr}
 use native.Mathlib.Omega.{arith}
 use native.Mathlib.Nat.{mul-le-mul_right, div-mul-le_self, pow-suc, mod-eq_of_lt}
 use borrow.Author.Tests.{lt-ltb, le-ltb}
 use lib.Bits.{bit_and}
-use lib.Dec.{ltb, lit≤}
 use lib.IntN.{ℤ, ◌-ℤ◌}
 use mir.Syntax.{w16, w32}
 use lib.Pow.{pow_pos, pow_mono}
 use mir.Val.{SFits, of_z}
 use mir.Facts.{Fits-of_z, Fits-lt-pow}
+use Rattle.std.proofs.lemmas.Bool.{cases_lt}
 use Rattle.word.specs.Int.{mod_ℤ, wrap16, wrap32}
 use Rattle.word.proofs.Words.{wrap_id, wrap_cong, mod_wrap_low, low_bits, amount}
 use Rattle.word.proofs.Mod.{mod_ℤ_lt}
@@ -42,29 +42,32 @@ unfolding halved_mask
 stop n m zero h = refl
 stop n m (suc k) h = rw (le-ltb n m h)
 
--- a mask of k bits is halved at most k times
-enough : (n m k : ℕ) → m < 2 ^ k → halved_mask n m (suc k) ≡ halved_mask n m k
-unfolding halved_mask
-enough n m zero h =
-    let e : m ≤ n = omega arith in
-    stop n m 1 e
-enough n m (suc k) h = ap (λ (x : ℕ). cond (ltb n m) x m) (enough n (m / 2) k (omega (arith, pow-suc 2 k)))
+-- a mask of t bits is halved to one of k, where the number of k bits is no more than n and that of k + 1 bits is
+halved : (n k j i t u : ℕ) → t ≡ j + k → u ≡ j + i → 2 ^ k ≤ n + 1 → n + 1 < 2 * 2 ^ k → halved_mask n (2 ^ t - 1) u ≡ 2 ^ k - 1
+halved n k zero i t u e f h l =
+    let same : t ≡ k = omega arith in
+    rw same (stop n (2 ^ k - 1) u (omega (arith, pow_pos k)))
+halved n k (suc j) i t u e f h l =
+    let bits : t ≡ suc (j + k) = omega arith in
+    let steps : u ≡ suc (j + i) = omega arith in
+    let p : 2 ^ suc (j + k) ≡ 2 * 2 ^ (j + k) = omega (arith, pow-suc 2 (j + k)) in
+    let q : 2 ^ k ≤ 2 ^ (j + k) = pow_mono {i = k} {j = j + k} (omega arith) in
+    let half : (2 ^ suc (j + k) - 1) / 2 ≡ 2 ^ (j + k) - 1 = omega (arith, p, pow_pos (j + k)) in
+    rw (bits, steps)
+    (step n (2 ^ suc (j + k) - 1) (j + i) (omega (arith, p, q)) ∙ ap (λ (m : ℕ). halved_mask n m (j + i)) half ∙ halved n k j i (j + k) (j + i) refl refl h l)
 
-pub halved-again : (n m : ℕ) → n < m → m ≤ 255 → halved_mask n (m / 2) 8 ≡ halved_mask n m 8
-halved-again n m h k = enough n (m / 2) 7 (omega arith) ∙ sym (step n m 7 h)
-
-pub halved_done : (n m : ℕ) → m ≤ n → halved_mask n m 8 ≡ m
-halved_done n m h = stop n m 8 h
-
-pub mask255 : Mask 255
-mask255 = record { count = 8; small = lit≤ tt; set = refl }
-
-pub mask_half : {m : ℕ} → Mask m → Mask (m / 2)
-mask_half {m} h = go h.count h.small h.set
-  where
-    go : (k : ℕ) → k ≤ 8 → m ≡ 2 ^ k - 1 → Mask (m / 2)
-    go zero h e = record { count = 0; small = lit≤ tt; set = omega arith }
-    go (suc k) h e = record { count = k; small = omega arith; set = omega (arith, pow-suc 2 k, pow_pos k) }
+-- the mask has as many bits as the count, or 8
+pub mask_is : (n k : ℕ) → 2 ^ k ≤ min n 255 + 1 → min n 255 + 1 < 2 * 2 ^ k → (2 ^ k - 1 ≡ halved_mask n 255 8) × Mask (2 ^ k - 1)
+mask_is n k h l =
+    let most : k ≤ 8 = elim (cases_lt k 9) [ inl p ↦ omega arith | inr p ↦ absurd (omega (arith, pow_mono {i = 9} {j = k} p)) ] in
+    let mask : Mask (2 ^ k - 1) = record { count = k; small = most; set = refl } in
+    elim (cases_lt n 255) [
+      | inl p ↦ (sym (halved n k (8 - k) k 8 8 (omega arith) (omega arith) (omega arith) (omega arith)), mask)
+      | inr p ↦ elim (cases_lt k 8) [
+        | inl q ↦ absurd (omega (arith, pow_mono {i = k} {j = 7} (omega arith)))
+        | inr q ↦ let all : 2 ^ k ≡ 256 = omega (arith, pow_mono {i = 8} {j = k} q) in (sym (stop n 255 8 p ∙ omega arith), mask)
+      ]
+    ]
 
 -- a word's bits under a mask
 pub masked : (z : ℤ) (m : ℕ) → SFits w32 z → Mask m → (bit_and (mod_ℤ z (2 ^ 32)) m ≡ mod_ℤ z (m + 1)) × (mod_ℤ z (m + 1) ≤ 255)

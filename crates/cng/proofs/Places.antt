@@ -1,17 +1,18 @@
 -- The excitation moved along by a subframe.
 use Prim.Native.Nat.{ℕ, zero, suc, ◌+◌, ◌-◌, ◌*◌, ◌<◌, ◌≤◌}
-use mathlib.Core.Path.{◌≡◌, sym, ap, ◌∙◌}
+use mathlib.Core.Path.{◌≡◌, refl, sym, ap, ◌∙◌}
 use mathlib.Core.Bool.{Bool, true, false, cond}
-use mathlib.Core.List.{List, ◌++◌}
+use mathlib.Core.List.{List, ◌++◌, append_assoc}
 use native.Mathlib.Omega.{arith}
 use native.Mathlib.Nat.{zero-add, suc-mul, mul-le-mul, mul-le-mul_right}
 use lib.ListN.{length, get_or, take, drop, length-drop}
-use lib.Seq.{take-append_seam, drop-append-add, drop-drop, length-take-le}
+use lib.Seq.{drop_at, length-take-le, get_or-take}
 use lib.IntN.{ℤ, pos}
 use lib.Signed.{lt_z}
+use Rattle.std.specs.List.{copy_within}
 use Rattle.sigproc.specs.Place.{put_at}
-use Rattle.cng.specs.Noise.{louder, loudest, moved_in}
-use Rattle.cng.specs.declared.Peak.{Peak}
+use Rattle.cng.specs.Noise.{louder, loudest, smoothed_gain, moved_in}
+use Rattle.cng.specs.declared.MaxGain.{MaxGain}
 
 -- the products of a subframe's length
 pub room : (k n l : ℕ) → k < n → n ≤ 4 → l ≤ 80 → (k * l + l ≤ n * l) × (n * l ≤ 320) × (l + (n - 1) * l ≡ n * l)
@@ -22,31 +23,30 @@ room k n l h hn hl =
     let c : suc (n - 1) * l ≡ n * l = ap (λ (m : ℕ). m * l) e in
     (omega (arith, suc-mul k l), b, omega (arith, suc-mul (n - 1) l))
 
--- one list stored at the front, another after it
-front : (z a b : List ℤ) → put_at (put_at z 0 a) (length a) b ≡ a ++ b ++ drop (length a + length b) z
-unfolding put_at
-front z a b =
-    let d : List ℤ = drop (length a) z in
-    rw (zero-add, take-append_seam a d, drop-append-add a d (length b), drop-drop (length b) (length a) z)
-
+-- the held ones moved along by l, and a list of l stored in front of them
 pub moved : (held exc : List ℤ) (l n k : ℕ) → length held ≡ 320 → length exc ≡ 320 → k < n → n ≤ 4 → l ≤ 80
-    → put_at (put_at held 0 (take l (drop (k * l) exc))) l (take ((n - 1) * l) held) ≡ moved_in l n exc held k
-unfolding moved_in
+    → put_at (copy_within held 0 ((n - 1) * l) l) 0 (take l (drop (k * l) exc)) ≡ moved_in l n exc held k
+unfolding put_at moved_in
 moved held exc l n k hh he hk hn hl =
     let r = room k n l hk hn hl in
+    let m = (n - 1) * l in
     let a = take l (drop (k * l) exc) in
-    let b = take ((n - 1) * l) held in
     let la : length a ≡ l = length-take-le l (drop (k * l) exc) (rw (length-drop) (omega arith)) in
-    let lb : length b ≡ (n - 1) * l = length-take-le ((n - 1) * l) held (omega arith) in
-    let e : length a + length b ≡ n * l = omega arith in
-    ap (λ (i : ℕ). put_at (put_at held 0 a) i b) (sym la) ∙ front held a b ∙ ap (λ (i : ℕ). a ++ b ++ drop i held) e
+    let lh : length (take l held) ≡ l = length-take-le l held (omega arith) in
+    let b = take m held in
+    let rest = drop (l + m) held in
+    let all : m - 0 ≡ m = omega arith in
+    let z : copy_within held 0 m l ≡ (take l held ++ b) ++ rest = ap (λ (j : ℕ). (take l held ++ take j held) ++ drop (l + j) held) all in
+    let d : drop l (copy_within held 0 m l) ≡ b ++ rest = ap (drop l) (z ∙ append_assoc (take l held) b rest) ∙ drop_at (take l held) (b ++ rest) l lh in
+    let e : a ++ drop (0 + length a) (copy_within held 0 m l) ≡ a ++ (b ++ rest) = ap (λ (j : ℕ). a ++ drop j (copy_within held 0 m l)) (zero-add (length a) ∙ la) ∙ ap (λ (x : List ℤ). a ++ x) d in
+    e ∙ sym (append_assoc a b rest) ∙ ap (λ (j : ℕ). (a ++ b) ++ drop j held) r.2
 
 -- the loudest of n gains is one of them
-louder_le : (p : Peak) (g : ℤ) (k : ℕ) → p.place ≤ k → (louder p g k).place ≤ k
+louder_le : (p : MaxGain) (g : ℤ) (k : ℕ) → p.place ≤ k → (louder p g k).place ≤ k
 unfolding louder
 louder_le p g k h = go (lt_z p.gain g)
   where
-    go : (t : Bool) → (cond {A = Peak} t (record { gain = g; place = k }) p).place ≤ k
+    go : (t : Bool) → (cond {A = MaxGain} t (record { gain = g; place = k }) p).place ≤ k
     go true = omega arith
     go false = h
 
@@ -57,3 +57,16 @@ place_lt gains (suc zero) h = omega (arith, louder_le (record { gain = pos 0; pl
 place_lt gains (suc (suc k)) h =
     let i = place_lt gains (suc k) (omega arith) in
     omega (arith, louder_le (loudest gains (suc k)) (get_or gains (suc k) (pos 0)) (suc k) (omega arith))
+
+-- only the first gains count
+pub loudest_front : (gains : List ℤ) (m n : ℕ) → n ≤ m → loudest (take m gains) n ≡ loudest gains n
+unfolding loudest
+loudest_front gains m zero h = refl
+loudest_front gains m (suc n) h =
+    rw (loudest_front gains m n (omega arith), get_or-take m gains n (pos 0) h) refl
+
+pub gain_front : (held : ℤ) (gains : List ℤ) (m n : ℕ) → n ≤ m → smoothed_gain held (take m gains) n ≡ smoothed_gain held gains n
+unfolding smoothed_gain
+gain_front held gains m zero h = refl
+gain_front held gains m (suc n) h =
+    rw (gain_front held gains m n (omega arith), get_or-take m gains n (pos 0) h) refl

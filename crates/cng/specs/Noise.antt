@@ -11,7 +11,7 @@ use Rattle.decoder.specs.With.{with_noise}
 use Rattle.decoder.specs.Outcome.{Framed}
 use Rattle.decoder.specs.declared.SilkCNGState.{SilkCNGState}
 use Rattle.decoder.specs.declared.SilkDecoderState.{SilkDecoderState}
-use Rattle.cng.specs.declared.Peak.{Peak}
+use Rattle.cng.specs.declared.MaxGain.{MaxGain}
 
 abbrev pub hold_noise : List ℤ → List ℤ → List ℤ → ℤ → ℤ → ℤ → SilkCNGState
 hold_noise exc lines memory gain seed rate =
@@ -45,11 +45,11 @@ unfoldable pub smoothed_line : ℤ → ℤ → ℤ
 smoothed_line held line = wrap16 (held +ℤ smulwb (line -ℤ held) (pos 16348))
 
 -- the louder of what was found before and a gain at place k, the first of equals
-unfoldable pub louder : Peak → ℤ → ℕ → Peak
+unfoldable pub louder : MaxGain → ℤ → ℕ → MaxGain
 louder b g k = cond (lt_z b.gain g) (record { gain = g; place = k }) b
 
 -- the largest of the first k gains and its place
-unfoldable pub loudest : List ℤ → ℕ → Peak
+unfoldable pub loudest : List ℤ → ℕ → MaxGain
 loudest gains zero = record { gain = pos 0; place = 0 }
 loudest gains (suc k) = louder (loudest gains k) (get_or gains k (pos 0)) k
 

@@ -2,13 +2,14 @@
 // Inner: every function but silk_cng and announced.
 #![tactic(auto)]
 
-ghost use Rattle.std.specs.Prelude.{◌≡◌, true, false, cond, ◌⊎◌, ◌++◌, ◌+◌, ◌-◌, ◌*◌, ◌^◌, ◌≤◌, ◌<◌, pos, ◌+ℤ◌, length, drop, get_or, replicate};
+ghost use Rattle.std.specs.Prelude.{◌≡◌, true, false, cond, ◌++◌, ◌+◌, ◌-◌, ◌*◌, ◌^◌, ◌≤◌, ◌<◌, pos, ◌+ℤ◌, length, drop, get_or, replicate};
 ghost use Rattle.word.specs.Int.{floor_div, mod_ℤ, eq_ℤ, sat16};
 ghost use Rattle.word.specs.Tabulate.{tabulate};
 ghost use Rattle.sigproc.specs.Synthesis.{played};
 ghost use Rattle.nlsf.specs.Lines.{negative_line};
 ghost use Rattle.nlsf.specs.Filter.{nlsf2a};
-ghost use Rattle.shape.specs.Shape.{shape, is_rate, is_count, rate_of, order_of};
+ghost use Rattle.shape.specs.Order.{size};
+ghost use Rattle.shape.specs.Shape.{shape as shape_at, is_rate, is_count, rate_of, count_of, order_of};
 ghost use Rattle.decoder.specs.Ranges.{cng_fits};
 ghost use Rattle.decoder.specs.State.{shape_of};
 ghost use Rattle.cng.specs.Noise.{flat_line, cng_reset, cng_ready, smoothed_line, smoothed_lines, louder, loudest, next_gain, smoothed_gain, moved_in, tracked, noise_gain, exc_mask, Mask, seed_at, drawn, noise_signal, silenced, sounded, sounding, heard_noise, comfort_noise};
@@ -19,58 +20,48 @@ use decoder::{SilkCNGState, SilkDecoderControl, SilkDecoderState};
 use macros::{silk_add_sat16, silk_rand, silk_smultt, silk_smulwb, silk_smulww, silk_sqrt_approx};
 use nlsf::nlsf2a;
 use refusal::Refusal;
-use shape::{Rate, count_of};
+use shape::{FrameShape, Order, Rate, count_of};
 use sigproc::{copy_at, played_sample, synthesis};
 use word::{add32, bits32, low16, shl32, shr32, sub32, wide16};
 
-// The largest gain and its place.
+// The largest gain and its subframe.
 #[derive(Clone, Copy)]
-struct Peak {
+struct MaxGain {
     gain: i32,
     place: usize,
 }
 
-fn flat_line(d: usize, i: usize) -> i16
-    requires { (d ≤ 16) × (i < d) }
-    ensures { result ≡ flat_line d i }
+fn flat_line(order: Order, i: usize) -> i16
+    requires { i < size order }
+    ensures { result ≡ flat_line (size order) i }
 {
-    ((i + 1) * (32767 / (d + 1))) as i16
+    ((i + 1) * (32767 / (order.size() + 1))) as i16
 }
 
-// The first d lines of a flat spectrum.
-fn flat_lines(held: [i16; 16], d: usize) -> [i16; 16]
-    requires { d ≤ 16 }
-    ensures { result ≡ tabulate d (flat_line d) ++ drop d held }
+// As many lines of a flat spectrum as the order says.
+fn flat_lines(lines: &mut [i16; 16], order: Order)
+    ensures { lines.new ≡ tabulate (size order) (flat_line (size order)) ++ drop (size order) lines.old }
 {
-    let mut lines = held;
-    for (i, line) in lines[..d].iter_mut().enumerate() {
-        *line = flat_line(d, i);
+    for (i, line) in lines[..order.size()].iter_mut().enumerate() {
+        *line = flat_line(order, i);
     }
-    lines
 }
 
-fn silk_cng_reset(h: SilkCNGState, khz: i32) -> SilkCNGState
-    requires { is_rate khz ≡ true }
-    ensures { result ≡ cng_reset (rate_of khz) h }
+fn silk_cng_reset(h: &mut SilkCNGState, shape: FrameShape)
+    ensures { h.new ≡ cng_reset (rate_of shape.fs_khz) h.old }
 {
-    SilkCNGState {
-        cng_smth_nlsf_q15: flat_lines(h.cng_smth_nlsf_q15, Rate::lpc_order(khz)),
-        cng_smth_gain_q16: 0,
-        rand_seed: 3176576,
-        fs_khz: khz,
-        ..h
-    }
+    flat_lines(&mut h.cng_smth_nlsf_q15, shape.order());
+    h.cng_smth_gain_q16 = 0;
+    h.rand_seed = 3176576;
+    h.fs_khz = shape.fs_khz;
 }
 
 // Noise at its rate: reset if it held another.
-fn ready(h: SilkCNGState, khz: i32) -> SilkCNGState
-    requires { is_rate khz ≡ true }
-    ensures { result ≡ cng_ready (rate_of khz) h }
+fn ready(h: &mut SilkCNGState, shape: FrameShape)
+    ensures { h.new ≡ cng_ready (rate_of shape.fs_khz) h.old }
 {
-    if khz == h.fs_khz {
-        h
-    } else {
-        silk_cng_reset(h, khz)
+    if shape.fs_khz != h.fs_khz {
+        silk_cng_reset(h, shape);
     }
 }
 
@@ -83,34 +74,30 @@ fn smoothed_line(held: i16, line: i16) -> i16
     ))
 }
 
-fn smoothed_lines(held: [i16; 16], lines: [i16; 16], d: usize) -> [i16; 16]
-    requires { d ≤ 16 }
-    ensures { result ≡ smoothed_lines held lines d }
+fn smoothed_lines(held: &mut [i16; 16], lines: [i16; 16], order: Order)
+    ensures { held.new ≡ smoothed_lines held.old lines (size order) }
 {
-    let mut new = held;
-    for (i, line) in new[..d].iter_mut().enumerate() {
-        *line = smoothed_line(held[i], lines[i]);
+    for (i, line) in held[..order.size()].iter_mut().enumerate() {
+        *line = smoothed_line(*line, lines[i]);
     }
-    new
 }
 
-fn louder(b: Peak, g: i32, k: usize) -> Peak
+fn louder(b: MaxGain, g: i32, k: usize) -> MaxGain
     ensures { result ≡ louder b g k }
 {
     if g > b.gain {
-        Peak { gain: g, place: k }
+        MaxGain { gain: g, place: k }
     } else {
         b
     }
 }
 
-// The place of the largest of the first n gains.
-fn loudest(gains: &[i32; 4], n: usize) -> usize
-    requires { n ≤ 4 }
-    ensures { result ≡ (loudest gains.now n).place }
+// The place of the largest gain.
+fn loudest(gains: &[i32]) -> usize
+    ensures { result ≡ (loudest gains.now (length gains.now)).place }
 {
-    let mut b = Peak { gain: 0, place: 0 };
-    for (k, g) in gains[..n].iter().enumerate() {
+    let mut b = MaxGain { gain: 0, place: 0 };
+    for (k, g) in gains.iter().enumerate() {
         b = louder(b, *g, k);
     }
     b.place
@@ -127,55 +114,44 @@ fn next_gain(held: i32, g: i32) -> i32
     }
 }
 
-fn smoothed_gain(held: i32, gains: &[i32; 4], n: usize) -> i32
-    requires { n ≤ 4 }
-    ensures { result ≡ smoothed_gain held gains.now n }
+fn smoothed_gain(held: i32, gains: &[i32]) -> i32
+    ensures { result ≡ smoothed_gain held gains.now (length gains.now) }
 {
     let mut gain = held;
-    for g in &gains[..n] {
+    for g in gains {
         gain = next_gain(gain, *g);
     }
     gain
 }
 
 // Subframe k, of l samples, in front of the held ones.
-fn moved_in(held: [i32; 320], exc: &[i32; 320], l: usize, n: usize, k: usize) -> [i32; 320]
+fn moved_in(held: &mut [i32; 320], exc: &[i32; 320], l: usize, n: usize, k: usize)
     requires { (l ≤ 80) × (n ≤ 4) × (k < n) }
-    ensures { result ≡ moved_in l n exc.now held k }
+    ensures { held.new ≡ moved_in l n exc.now held.old k }
 {
     let a = k * l;
     let b = a + l;
     let m = (n - 1) * l;
-    let mut new = held;
-    copy_at(&mut new, 0, &exc[a..b]);
-    copy_at(&mut new, l, &held[..m]);
-    new
+    held.copy_within(..m, l);
+    copy_at(held, 0, &exc[a..b]);
 }
 
+// The background followed.
 fn tracked(
-    h: SilkCNGState,
+    h: &mut SilkCNGState,
     exc: &[i32; 320],
     lines: [i16; 16],
     gains: &[i32; 4],
-    khz: i32,
-    nb_subfr: i32,
-) -> SilkCNGState
-    requires { (is_rate khz ≡ true) × (is_count nb_subfr ≡ true) }
-    ensures { result ≡ tracked (shape khz nb_subfr) exc.now lines gains.now h }
+    shape: FrameShape,
+)
+    ensures { h.new ≡ tracked (shape_at shape.fs_khz shape.nb_subfr) exc.now lines gains.now h.old }
 {
-    let n = count_of(nb_subfr);
-    SilkCNGState {
-        cng_exc_buf_q14: moved_in(
-            h.cng_exc_buf_q14,
-            exc,
-            Rate::subfr_length(khz),
-            n,
-            loudest(gains, n),
-        ),
-        cng_smth_nlsf_q15: smoothed_lines(h.cng_smth_nlsf_q15, lines, Rate::lpc_order(khz)),
-        cng_smth_gain_q16: smoothed_gain(h.cng_smth_gain_q16, gains, n),
-        ..h
-    }
+    let l = Rate::subfr_length(shape.fs_khz);
+    let n = count_of(shape.nb_subfr);
+    let gains = &gains[..n];
+    moved_in(&mut h.cng_exc_buf_q14, exc, l, n, loudest(gains));
+    smoothed_lines(&mut h.cng_smth_nlsf_q15, lines, shape.order());
+    h.cng_smth_gain_q16 = smoothed_gain(h.cng_smth_gain_q16, gains);
 }
 
 fn noise_gain(scale: i16, last: i32, smoothed: i32) -> i32
@@ -194,15 +170,11 @@ fn noise_gain(scale: i16, last: i32, smoothed: i32) -> i32
     )
 }
 
-// The mask for n samples: 255, halved while it is above n.
+// The mask for n samples: as many bits set, up to 8, as give a number no larger than n.
 fn exc_mask(n: usize) -> usize
     ensures { (result ≡ exc_mask n) × Mask result }
 {
-    let mut mask = 255;
-    while mask > n {
-        mask /= 2;
-    }
-    mask
+    (1 << (n.min(255) + 1).ilog2()) - 1
 }
 
 // A place of the held excitation by the top bits of a number.
@@ -226,20 +198,20 @@ fn drawn(out: &mut [i32], exc: &[i32; 320], mask: usize, seed: i32) -> i32
     s
 }
 
-// The filter of the first d lines, with zeros after it.
-fn noise_filter(lines: [i16; 16], d: usize, edition: i32) -> [i16; 16]
-    requires { ((d ≡ 10) ⊎ (d ≡ 16)) × (negative_line lines d ≡ false) }
-    ensures { result ≡ nlsf2a edition lines d ++ drop d (replicate 16 (pos 0)) }
+// The filter of the lines, with zeros after it.
+fn noise_filter(lines: [i16; 16], order: Order, edition: i32) -> [i16; 16]
+    requires { negative_line lines (size order) ≡ false }
+    ensures { result ≡ nlsf2a edition lines (size order) ++ drop (size order) (replicate 16 (pos 0)) }
 {
     let mut a = [0; 16];
-    nlsf2a(&mut a[..d], &lines, d, edition);
+    nlsf2a(&mut a[..order.size()], &lines, order, edition);
     a
 }
 
 // The memory and the noise after it, and the generator after them.
-fn noise_signal(buf: &mut [i32], h: SilkCNGState, d: usize, edition: i32) -> i32
-    requires { (16 ≤ length buf.old) × ((d ≡ 10) ⊎ (d ≡ 16)) × (negative_line h.cng_smth_nlsf_q15 d ≡ false) }
-    ensures { (result ≡ seed_at h.rand_seed (length buf.old - 16)) × (buf.new ≡ noise_signal edition d h (length buf.old - 16)) }
+fn noise_signal(buf: &mut [i32], h: &SilkCNGState, order: Order, edition: i32) -> i32
+    requires { (16 ≤ length buf.old) × (negative_line h.now.cng_smth_nlsf_q15 (size order) ≡ false) }
+    ensures { (result ≡ seed_at h.now.rand_seed (length buf.old - 16)) × (buf.new ≡ noise_signal edition (size order) h.now (length buf.old - 16)) }
 {
     let m = buf.len();
     let n = m - 16;
@@ -250,8 +222,8 @@ fn noise_signal(buf: &mut [i32], h: SilkCNGState, d: usize, edition: i32) -> i32
         exc_mask(n),
         h.rand_seed,
     );
-    let a = noise_filter(h.cng_smth_nlsf_q15, d, edition);
-    synthesis(buf, &a, d);
+    let a = noise_filter(h.cng_smth_nlsf_q15, order, edition);
+    synthesis(buf, &a, order);
     seed
 }
 
@@ -261,118 +233,61 @@ fn added(frame: &mut [i16], signal: &[i32], gain: i32)
     ensures { frame.new ≡ tabulate (length frame.old) (λ i. sat16 (get_or frame.old i (pos 0) +ℤ played gain (get_or signal.now i (pos 0)))) }
 {
     let gain_q10 = shr32(gain, 6);
+    // Not a zip: after one over `iter_mut` only the length of the frame is known.
     for (i, x) in frame.iter_mut().enumerate() {
         *x = silk_add_sat16(*x, played_sample(signal[i], gain_q10));
     }
 }
 
-// Noise of order d added to the frame.
-fn noise(
-    h: SilkCNGState,
-    d: usize,
-    edition: i32,
-    scale: i16,
-    last: i32,
-    frame: &mut [i16],
-) -> SilkCNGState
-    requires { (length frame.old ≤ 320) × ((d ≡ 10) ⊎ (d ≡ 16)) × (negative_line h.cng_smth_nlsf_q15 d ≡ false) }
-    ensures { (result ≡ sounded edition d h (length frame.old))
-        × (frame.new ≡ sounding edition d scale last h (length frame.old) frame.old) }
+// As many places of the memory zeroed as the order says.
+fn silenced(h: &mut SilkCNGState, order: Order)
+    ensures { h.new ≡ silenced (size order) h.old }
 {
+    h.cng_synth_state[..order.size()].fill(0);
+}
+
+// A received frame: in one without voice activity the background is followed.
+pub fn received(
+    h: &mut SilkCNGState,
+    exc: &[i32; 320],
+    lines: [i16; 16],
+    gains: &[i32; 4],
+    shape: FrameShape,
+    signal_type: i32,
+)
+    ensures { h.new ≡ heard_noise (shape_at shape.fs_khz shape.nb_subfr) exc.now lines gains.now signal_type h.old }
+{
+    ready(h, shape);
+    match signal_type {
+        0 => tracked(h, exc, lines, gains, shape),
+        _ => {}
+    }
+    silenced(h, shape.order());
+}
+
+// Noise added to a lost frame. Its length is asked as a clause: as a type it would wrap the slice that each caller lends.
+pub fn lost(h: &mut SilkCNGState, khz: i32, edition: i32, scale: i16, last: i32, frame: &mut [i16])
+    requires { (is_rate khz ≡ true) × (cng_fits (rate_of khz) h.old ≡ true) × (length frame.old ≤ 320) }
+    ensures { (h.new ≡ sounded edition (order_of (rate_of khz)) (cng_ready (rate_of khz) h.old) (length frame.old))
+        × (frame.new ≡ sounding edition (order_of (rate_of khz)) scale last (cng_ready (rate_of khz) h.old) (length frame.old) frame.old) }
+{
+    // The count is not read.
+    let shape = FrameShape {
+        fs_khz: khz,
+        nb_subfr: 2,
+    };
+    ready(h, shape);
     let n = frame.len();
     let m = 16 + n;
     let mut buf = [0; 336];
-    let seed = noise_signal(&mut buf[..m], h, d, edition);
+    let seed = noise_signal(&mut buf[..m], h, shape.order(), edition);
     added(
         frame,
         &buf[16..m],
         noise_gain(scale, last, h.cng_smth_gain_q16),
     );
-    let mut memory = h.cng_synth_state;
-    copy_at(&mut memory, 0, &buf[n..m]);
-    SilkCNGState {
-        cng_synth_state: memory,
-        rand_seed: seed,
-        ..h
-    }
-}
-
-// The first d places zeroed.
-fn silenced_memory(memory: [i32; 16], d: usize) -> [i32; 16]
-    requires { d ≤ 16 }
-    ensures { result ≡ replicate d (pos 0) ++ drop d memory }
-{
-    let mut new = memory;
-    new[..d].fill(0);
-    new
-}
-
-fn silenced(h: SilkCNGState, d: usize) -> SilkCNGState
-    requires { d ≤ 16 }
-    ensures { result ≡ silenced d h }
-{
-    SilkCNGState {
-        cng_synth_state: silenced_memory(h.cng_synth_state, d),
-        ..h
-    }
-}
-
-// The background followed in a frame without voice activity.
-fn followed(
-    h: SilkCNGState,
-    exc: &[i32; 320],
-    lines: [i16; 16],
-    gains: &[i32; 4],
-    khz: i32,
-    nb_subfr: i32,
-    signal_type: i32,
-) -> SilkCNGState
-    requires { (is_rate khz ≡ true) × (is_count nb_subfr ≡ true) }
-    ensures { result ≡ cond (eq_ℤ signal_type (pos 0)) (tracked (shape khz nb_subfr) exc.now lines gains.now h) h }
-{
-    match signal_type {
-        0 => tracked(h, exc, lines, gains, khz, nb_subfr),
-        _ => h,
-    }
-}
-
-// What noise holds after a received frame.
-pub fn received(
-    held: SilkCNGState,
-    exc: &[i32; 320],
-    lines: [i16; 16],
-    gains: &[i32; 4],
-    khz: i32,
-    nb_subfr: i32,
-    signal_type: i32,
-) -> SilkCNGState
-    requires { (is_rate khz ≡ true) × (is_count nb_subfr ≡ true) }
-    ensures { result ≡ heard_noise (shape khz nb_subfr) exc.now lines gains.now signal_type held }
-{
-    let d = Rate::lpc_order(khz);
-    let h = ready(held, khz);
-    silenced(
-        followed(h, exc, lines, gains, khz, nb_subfr, signal_type),
-        d,
-    )
-}
-
-// Noise added to a lost frame.
-pub fn lost(
-    held: SilkCNGState,
-    khz: i32,
-    edition: i32,
-    scale: i16,
-    last: i32,
-    frame: &mut [i16],
-) -> SilkCNGState
-    requires { (is_rate khz ≡ true) × (cng_fits (rate_of khz) held ≡ true) × (length frame.old ≤ 320) }
-    ensures { (result ≡ sounded edition (order_of (rate_of khz)) (cng_ready (rate_of khz) held) (length frame.old))
-        × (frame.new ≡ sounding edition (order_of (rate_of khz)) scale last (cng_ready (rate_of khz) held) (length frame.old) frame.old) }
-{
-    let d = Rate::lpc_order(khz);
-    let h = ready(held, khz);
-    noise(h, d, edition, scale, last, frame)
+    copy_at(&mut h.cng_synth_state, 0, &buf[n..m]);
+    h.rand_seed = seed;
 }
 
 // Comfort noise for a whole frame.
@@ -380,24 +295,27 @@ fn comfort_noise(s: SilkDecoderState, gains: &[i32; 4], frame: &mut [i16]) -> Si
     requires { (is_rate s.fs_khz ≡ true) × (is_count s.nb_subfr ≡ true) × (cng_fits (rate_of s.fs_khz) s.s_cng ≡ true) × (length frame.old ≤ 320) }
     ensures { record { state = result; frame = frame.new } ≡ comfort_noise (shape_of s) s gains.now (length frame.old) frame.old }
 {
+    let shape = FrameShape {
+        fs_khz: s.fs_khz,
+        nb_subfr: s.nb_subfr,
+    };
     // With `..s` the proof would have to read back each number that is kept.
     let mut t = s;
     if s.loss_cnt == 0 {
-        t.s_cng = received(
-            s.s_cng,
+        received(
+            &mut t.s_cng,
             &s.exc_q14,
             s.prev_nlsf_q15,
             gains,
-            s.fs_khz,
-            s.nb_subfr,
+            shape,
             s.prev_signal_type,
         );
         return t;
     }
     let plc = s.s_plc;
     let settings = s.settings;
-    t.s_cng = lost(
-        s.s_cng,
+    lost(
+        &mut t.s_cng,
         s.fs_khz,
         settings.edition,
         plc.rand_scale_q14,
@@ -416,7 +334,7 @@ pub fn silk_cng(
 ) -> Result<SilkDecoderState, Refusal>
     ensures { (result ≡ cng_answer s c frame.old n) × (frame.new ≡ cng_output s c frame.old n) }
 {
-    judge::cng(s, c, frame.len(), n)?;
+    judge::cng(&s, &c, frame.len(), n)?;
     let gains = c.gains_q16;
     Ok(comfort_noise(s, &gains, &mut frame[..n]))
 }

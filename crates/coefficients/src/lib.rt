@@ -3,7 +3,7 @@
 #![tactic(auto)]
 
 ghost use Rattle.std.specs.Prelude.{◌≡◌, ◌<◌, true, cond};
-ghost use Rattle.coefficients.specs.Line.{between, blank, number, fits, stored, worse, ended, minus, digit, fed};
+ghost use Rattle.coefficients.specs.Line.{between, blank, number, fits, stored, ended, minus, digit, fed};
 
 // The numbers so far, and the one that is being read: its minus sign, and its size from the first digit on.
 // The count stays beside the numbers: there is no heap, and the filter's test takes all 16 coefficients, with zeros behind.
@@ -11,19 +11,22 @@ ghost use Rattle.coefficients.specs.Line.{between, blank, number, fits, stored, 
 pub struct Entry {
     pub a: [i16; 17],
     pub count: usize,
-    pub bad: bool,
+    // A truth value, since only a minus sign is a sign here: a type of signs would be tested for it, and say no more.
     negative: bool,
     size: Option<usize>,
 }
 
+// A line that is no list of such numbers.
+#[derive(Clone, Copy)]
+pub struct Bad;
+
 #[tactic(auto, unfolding(crate::specs::Line::between))]
-fn between(a: [i16; 17], count: usize, bad: bool) -> Entry
-    ensures { result ≡ between a count bad }
+fn between(a: [i16; 17], count: usize) -> Entry
+    ensures { result ≡ between a count }
 {
     Entry {
         a,
         count,
-        bad,
         negative: false,
         size: None,
     }
@@ -34,7 +37,7 @@ fn between(a: [i16; 17], count: usize, bad: bool) -> Entry
 pub fn blank() -> Entry
     ensures { result ≡ blank }
 {
-    between([0; 17], 0, false)
+    between([0; 17], 0)
 }
 
 #[tactic(auto, unfolding(crate::specs::Line::number))]
@@ -55,13 +58,6 @@ fn fits(e: Entry, size: usize) -> bool
     e.count < 17 && size < sizes
 }
 
-#[tactic(auto, unfolding(crate::specs::Line::worse))]
-fn worse(e: Entry) -> Entry
-    ensures { result ≡ worse e }
-{
-    between(e.a, e.count, true)
-}
-
 #[tactic(auto, unfolding(crate::specs::Line::stored, crate::specs::Line::fits))]
 fn stored(e: Entry, size: usize) -> Entry
     requires { fits e size ≡ true }
@@ -69,32 +65,32 @@ fn stored(e: Entry, size: usize) -> Entry
 {
     let mut a = e.a;
     a[e.count] = number(size, e.negative);
-    between(a, e.count + 1, e.bad)
+    between(a, e.count + 1)
 }
 
 // A number's end, or that of the line: a minus sign alone is bad.
 #[tactic(auto, unfolding(crate::specs::Line::ended, crate::specs::Line::left_by))]
-pub fn ended(e: Entry) -> Entry
+pub fn ended(e: Entry) -> Result<Entry, Bad>
     ensures { result ≡ ended e }
 {
     match e.size {
-        Some(size) if fits(e, size) => stored(e, size),
-        None if !e.negative => e,
-        _ => worse(e),
+        Some(size) if fits(e, size) => Ok(stored(e, size)),
+        None if !e.negative => Ok(e),
+        _ => Err(Bad),
     }
 }
 
 #[tactic(auto, unfolding(crate::specs::Line::minus))]
-fn minus(e: Entry) -> Entry
+fn minus(e: Entry) -> Result<Entry, Bad>
     ensures { result ≡ minus e }
 {
     if e.size.is_some() || e.negative {
-        return worse(e);
+        return Err(Bad);
     }
-    Entry {
+    Ok(Entry {
         negative: true,
         ..e
-    }
+    })
 }
 
 #[tactic(auto, unfolding(crate::specs::Line::digit))]
@@ -110,13 +106,13 @@ fn digit(e: Entry, d: u8) -> Entry
 
 // The line with one more byte.
 #[tactic(auto, unfolding(crate::specs::Line::fed, crate::specs::Line::is_blank))]
-pub fn fed(e: Entry, b: u8) -> Entry
+pub fn fed(e: Entry, b: u8) -> Result<Entry, Bad>
     ensures { result ≡ fed e b }
 {
     match b {
         b' ' | b'\t' | b'\r' | b',' => ended(e),
         b'-' => minus(e),
-        b'0'..=b'9' => digit(e, b - b'0'),
-        _ => worse(e),
+        b'0'..=b'9' => Ok(digit(e, b - b'0')),
+        _ => Err(Bad),
     }
 }

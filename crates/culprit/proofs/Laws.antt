@@ -1,21 +1,20 @@
 -- Frames played from a state on, one at a time; a prefix that passes nothing need not be played again.
-use Prim.Native.Nat.{ℕ, zero, suc, ◌+◌, ◌-◌, ◌*◌, ◌<◌}
+use Prim.Native.Nat.{ℕ, zero, suc, ◌+◌, ◌-◌, ◌<◌}
 use mathlib.Core.Path.{◌≡◌, refl, sym, ap, ◌∙◌}
 use mathlib.Core.Bool.{Bool, true, false, cond, ◌&&◌, ◌||◌, false≢true}
 use mathlib.Core.List.{List, [], ◌∷◌, map}
 use native.Mathlib.Omega.{arith}
 use Rattle.std.specs.Prelude.{Some, None}
-use lib.Dec.{eqb}
 use lib.IntN.{ℤ}
 use lib.ListN.{length, length-map, get_or, take, drop, drop_of_length-le}
 use lib.Seq.{drop-cons, get_or-drop}
 use Rattle.shape.specs.Shape.{frame_length}
 use Rattle.decoder.specs.declared.SilkDecoderState.{SilkDecoderState}
 use Rattle.decode_frame.specs.Call.{shape_at}
-use Rattle.record.specs.Record.{params_in, control_in, rows_in, lines_in, pulses_in}
+use Rattle.record.specs.Record.{is_received, params_in, control_in, rows_in, lines_in, pulses_in}
 use Rattle.record.specs.Recorded.{Recorded, lost, received, recorded_in}
 use Rattle.playback.specs.Playback.{call_of, sound_of, samples_from}
-use Rattle.recording.specs.Frames.{recorded_at, Inside}
+use Rattle.recording.specs.Frames.{Inside}
 use Rattle.heard.specs.Loud.{any_beyond, heard_of}
 use Rattle.heard.specs.declared.Heard.{Heard}
 use Rattle.heard.proofs.Laws.{beyond-append}
@@ -171,16 +170,10 @@ module _ (f : ℕ → Recorded) (r : List ℕ) where
       ∙ ap (state_at l khz nb s frames) m
 
 -- a record's kind
-kind_in : (d : List ℕ) → was_received (recorded_in d) ≡ eqb (get_or d 0 0) 1
+pub kind_in : (d : List ℕ) → was_received (recorded_in d) ≡ is_received d
 unfolding recorded_in was_received
-kind_in d = go (eqb (get_or d 0 0) 1)
+kind_in d = go (is_received d)
   where
     go : (t : Bool) → was_received (cond t (received (params_in d) (control_in d) (rows_in d) (lines_in d) (pulses_in d)) lost) ≡ t
     go true = refl
     go false = refl
-
-pub kind_at : (b : List ℕ) (i : ℕ) → was_received (recorded_at b i) ≡ eqb (get_or b (1024 * i + 2) 0) 1
-unfolding recorded_at
-kind_at b i =
-    let z : 1024 * i + 2 + 0 ≡ 1024 * i + 2 = omega arith in
-    kind_in (drop (1024 * i + 2) b) ∙ ap (λ (m : ℕ). eqb m 1) (get_or-drop (1024 * i + 2) b 0 0) ∙ ap (λ (j : ℕ). eqb (get_or b j 0) 1) z

@@ -33,7 +33,7 @@ zeros-fit (suc n) (suc i) = zeros-fit n i
 pub zeros-words : (z : List ℤ) → z ≡ replicate 640 (pos 0) → Words w32 640 z
 zeros-words z e = record { count = ap length e ∙ length-replicate 640 (pos 0); fits = rw e (zeros-fit 640) }
 
-take-zeros : (n m : ℕ) → n ≤ m → take n (replicate m (pos 0)) ≡ replicate n (pos 0)
+pub take-zeros : (n m : ℕ) → n ≤ m → take n (replicate m (pos 0)) ≡ replicate n (pos 0)
 take-zeros zero m h = refl
 take-zeros (suc n) zero h = absurd (not-suc-le-zero h)
 take-zeros (suc n) (suc m) h = ap (λ (r : List ℤ). pos 0 ∷ r) (take-zeros n m (le_of_suc-le-suc h))
@@ -52,13 +52,12 @@ module _ (s q memory : List ℤ) (l : ℕ) (e : q ≡ replicate 96 (pos 0)) (k :
 
 -- ---- the frame
 module _ (f : Setting) (rows : List (List ℤ)) (exc : List ℤ) (n : ℕ) (b t : Carried) (z signal signal' past' ob ob' xq xq' memory memory' : List ℤ) where
-  pub finished : z ≡ replicate 640 (pos 0) → b.idx ≡ f.ltp_mem_length → f.ltp_mem_length ≤ 640 → take 16 signal ≡ memory
+  pub finished : z ≡ replicate f.ltp_mem_length (pos 0) → take 16 signal ≡ memory
       → held t past' signal' ob' (take (f.subfr_length * n) xq') ≡ subframes f rows exc (held b z signal ob []) n
       → drop (f.subfr_length * n) xq' ≡ drop (f.subfr_length * n) xq → memory' ≡ take 16 signal'
       → Left (subframes f rows exc (begin f b memory ob) n) t memory' ob' xq' (drop (f.subfr_length * n) xq)
-  finished ez ei h em e d e' =
-      let p : take b.idx z ≡ replicate f.ltp_mem_length (pos 0) = ap (λ (x : List ℤ). take b.idx x) ez ∙ ap (λ (i : ℕ). take i (replicate 640 (pos 0))) ei ∙ take-zeros f.ltp_mem_length 640 h in
-      let s : held b z signal ob [] ≡ begin f b memory ob = λ i. record { control = b.control; past = p i; memory = em i; gain = b.gain; buffer = ob; samples = [] } in
+  finished ez em e d e' =
+      let s : held b z signal ob [] ≡ begin f b memory ob = λ i. record { control = b.control; past = ez i; memory = em i; gain = b.gain; buffer = ob; samples = [] } in
       let g = e ∙ ap (λ (x : Core). subframes f rows exc x n) s in
       let o = ap (λ (x : Core). x.samples) g in
       record {
@@ -70,6 +69,10 @@ module _ (f : Setting) (rows : List (List ℤ)) (exc : List ℤ) (n : ℕ) (b t 
       }
 
 -- ---- the whole
+pub counted : (s : SilkDecoderState) (q : Params) (f : Setting) → f ≡ setting_of (shape_of s) s q → f.nb_subfr ≡ count_of s.nb_subfr
+unfolding setting_of
+counted s q f hf = ap (λ (g : Setting). g.nb_subfr) hf
+
 pub frame_of_lem : (s : SilkDecoderState) (q : Params) (f : Setting) (count : ℕ) → f ≡ setting_of (shape_of s) s q → count ≡ count_of s.nb_subfr → f.subfr_length * count ≡ frame_length (shape_of s)
 unfolding setting_of
 frame_of_lem s q f count hf hk = λ i. (hf i).subfr_length * hk i

@@ -9,8 +9,6 @@ use lib.Dec.{ltb}
 use lib.IntN.{ℤ, pos}
 use lib.ListN.{length, get_or, take, drop, length-set}
 use lib.Seq.{get_or-set_same, get_or-set_other, drop-drop}
-use mir.Syntax.{w32}
-use Rattle.decoder.specs.Typed.{Words}
 use Rattle.decoder.specs.declared.SilkDecoderControl.{SilkDecoderControl}
 use Rattle.decode_core.specs.Core.{Core, transits, held_lag, smooth, smoothed, long, control_at, subframe, subframes}
 use Rattle.decode_core.specs.Ready.{Lag, Playable, Framed, held}
@@ -51,21 +49,19 @@ module _ (f : Setting) (rows : List (List ℤ)) (exc : List ℤ) (n : ℕ) (b : 
   pub record Going (k : ℕ) (t : Carried) (signal past ob xq : List ℤ) : Type 0 where
     pub done : held t past signal ob (take (f.subfr_length * k) xq) ≡ subframes f rows exc (held b past₀ signal₀ ob₀ []) k
     pub left : drop (f.subfr_length * k) xq ≡ drop (f.subfr_length * k) xq₀
-    pub words : Words w32 640 past
-    pub low : f.ltp_mem_length ≤ t.idx
-    pub high : t.idx ≤ f.ltp_mem_length + f.subfr_length * k
+    pub low : f.ltp_mem_length ≤ length past
+    pub high : length past ≤ f.ltp_mem_length + f.subfr_length * k
     pub gains : t.control.gains_q16 ≡ b.control.gains_q16
     pub lags : length t.control.pitch_l ≡ 4
     pub later : (j : ℕ) → k ≤ j → get_or t.control.pitch_l j (pos 0) ≡ get_or b.control.pitch_l j (pos 0)
 
-  pub begun : Words w32 640 past₀ → b.idx ≡ f.ltp_mem_length → length b.control.pitch_l ≡ 4 → Going 0 b signal₀ past₀ ob₀ xq₀
+  pub begun : length past₀ ≡ f.ltp_mem_length → length b.control.pitch_l ≡ 4 → Going 0 b signal₀ past₀ ob₀ xq₀
   unfolding subframes
-  begun w i l =
+  begun i l =
       let z : f.subfr_length * 0 ≡ 0 = omega arith in
       record {
         done = rw z refl;
         left = refl;
-        words = w;
         low = omega arith;
         high = omega arith;
         gains = refl;
@@ -73,7 +69,7 @@ module _ (f : Setting) (rows : List (List ℤ)) (exc : List ℤ) (n : ℕ) (b : 
         later = λ j h. refl;
       }
 
-  pub playable : (k : ℕ) (t : Carried) (signal past ob xq : List ℤ) → Framed f b.control n → k < n → Going k t signal past ob xq → Playable f t k
+  pub playable : (k : ℕ) (t : Carried) (signal past ob xq : List ℤ) → Framed f b.control n → k < n → Going k t signal past ob xq → Playable f t.control k (length past)
   playable k t signal past ob xq p h g =
       record {
         sized = p.sized;
@@ -87,19 +83,18 @@ module _ (f : Setting) (rows : List (List ℤ)) (exc : List ℤ) (n : ℕ) (b : 
   pub went : (k : ℕ) (t r : Carried) (signal past ob xq signal' past' ob' xq' : List ℤ) → Going k t signal past ob xq
       → (held r past' signal' ob' (take (f.subfr_length * k + f.subfr_length) xq') ≡ subframe f rows exc k (held t past signal ob (take (f.subfr_length * k) xq)))
       → (drop (f.subfr_length * k + f.subfr_length) xq' ≡ drop (f.subfr_length * k + f.subfr_length) xq)
-      → Words w32 640 past' → r.idx ≡ t.idx + cond (long f k) f.subfr_length 0
+      → length past' ≡ length past + cond (long f k) f.subfr_length 0
       → Going (suc k) r signal' past' ob' xq'
   unfolding subframes subframe
-  went k t r signal past ob xq signal' past' ob' xq' g e d w i =
+  went k t r signal past ob xq signal' past' ob' xq' g e d i =
       let l = f.subfr_length in
       let m : l * suc k ≡ l * k + l = mul-suc l k in
       let c : r.control ≡ control_at f t.control k = ap (λ (x : Core). x.control) e in
       record {
         done = rw m (e ∙ ap (subframe f rows exc k) g.done);
         left = rw m (d ∙ sym (drop-drop l (l * k) xq) ∙ ap (drop l) g.left ∙ drop-drop l (l * k) xq₀);
-        words = w;
         low = omega (arith, g.low, i);
-        high = rw (m, i) (le_trans (most (long f k) t.idx l (f.ltp_mem_length + l * k) g.high) (omega arith));
+        high = rw (m, i) (le_trans (most (long f k) (length past) l (f.ltp_mem_length + l * k) g.high) (omega arith));
         gains = ap (λ (x : SilkDecoderControl). x.gains_q16) c ∙ control_at_gains f t.control k ∙ g.gains;
         lags = ap (λ (x : SilkDecoderControl). length x.pitch_l) c ∙ control_at_lags f t.control k ∙ g.lags;
         later = λ j h. ap (λ (x : SilkDecoderControl). get_or x.pitch_l j (pos 0)) c ∙ control_at_later f t.control k j h ∙ g.later j (omega arith);

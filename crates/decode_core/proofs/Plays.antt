@@ -31,7 +31,7 @@ module _ (f : Setting) (rows : List (List ℤ)) (exc : List ℤ) (k : ℕ) (b b'
     (ha : adj ≡ gain_adjustment b.gain b'.gain)
     (hs : 16 ≤ length signal)
     (hl : loaded ≡ map (smulww adj) (take 16 signal) ++ take f.subfr_length (drop (f.subfr_length * k) exc))
-    (ht : LongTerm f b'.control k row adj samples ob ob' before after b.idx b'.idx (drop 16 loaded) res)
+    (ht : LongTerm f b'.control k row adj samples ob ob' before after (drop 16 loaded) res)
     (hm : mid ≡ take 16 loaded ++ res)
     (h' : take 16 signal' ≡ drop f.subfr_length (synthesis (take 16 mid) (drop 16 mid) row f.lpc_order f.subfr_length))
     (ho : out ≡ map (played b'.gain) (drop 16 (synthesis (take 16 mid) (drop 16 mid) row f.lpc_order f.subfr_length))) where

@@ -17,12 +17,12 @@ use Rattle.macros.specs.Fixed.{smulww, smulwb}
 use Rattle.sigproc.specs.Analysis.{products, residual, analysis}
 use Rattle.sigproc.proofs.Fill.{length-map, get_or-map}
 use Rattle.sigproc.proofs.Ranges.{length-analysis, append-fits, one-fits, take-fits, drop-fits, tabulate-fits}
-use Rattle.macros.proofs.Ranges.{smulww-fits, smulwb-fits}
 use Rattle.word.proofs.Words.{wrap-fits}
 use Rattle.decoder.specs.declared.SilkDecoderControl.{SilkDecoderControl}
 use Rattle.decode_core.specs.declared.Setting.{Setting}
 use Rattle.decode_core.specs.Core.{refilled, ltp_past, inverse_gain_q31, rewhitens, past_at}
-use Rattle.decode_core.proofs.Pasts.{unadjusted}
+use Rattle.decoder.specs.Typed.{Words}
+use Rattle.decode_core.proofs.Pasts.{unadjusted, length-ltp_past}
 
 -- a part put back
 pub mid_is : (a k : ℕ) (xs ys : List ℤ) → put_mid a k xs ys ≡ take a xs ++ ys ++ drop (a + k) xs
@@ -158,6 +158,27 @@ unfolding refilled
 refilled-fits past m f h k =
     append-fits (take (length past - m) past) (tabulate m (λ t. f (length past - m + t))) (take-fits (length past - m) past h) (tabulate-fits m (λ t. f (length past - m + t)) (λ i. k (length past - m + i)))
 
+-- the places in use of a long-term state
+pub in_view : {past : List ℤ} (q : List ℤ) (idx : ℕ) → take idx q ≡ past → Words w32 640 q → idx ≤ 640 → length past ≡ idx
+in_view q idx e v h = ap length (sym e) ∙ length-take-le idx q (omega (arith, v.count))
+
+-- and of one that is filled anew
+module _ (q : List ℤ) (idx m : ℕ) (f : ℕ → ℤ) (v : Words w32 640 q) (h : idx ≤ 640) (k : m ≤ idx) where
+  length_front : length (refilled (take idx q) m f) ≡ idx
+  length_front =
+      let l : length (take idx q) ≡ idx = length-take-le idx q (omega (arith, v.count)) in
+      length-refilled (take idx q) m f (omega arith) ∙ l
+
+  pub refilled-view : take idx (refilled (take idx q) m f ++ drop idx q) ≡ refilled (take idx q) m f
+  refilled-view = take_at (refilled (take idx q) m f) (drop idx q) idx length_front
+
+  pub refilled-words : ((i : ℕ) → SFits w32 (f i)) → Words w32 640 (refilled (take idx q) m f ++ drop idx q)
+  refilled-words g =
+      record {
+        count = length-append (refilled (take idx q) m f) (drop idx q) ∙ omega (arith, length_front, length-drop idx q, v.count);
+        fits = append-fits (refilled (take idx q) m f) (drop idx q) (refilled-fits (take idx q) m f (take-fits idx q v.fits) g) (drop-fits idx q v.fits);
+      }
+
 module _ (f : Setting) (c : SilkDecoderControl) (k : ℕ) (row : List ℤ) (adj : ℤ) (buffer past : List ℤ) where
   pub length-past_at : nat_abs (get_or c.pitch_l k (pos 0)) + 2 ≤ length past → length (past_at f c k row adj buffer past) ≡ length past
   unfolding past_at
@@ -170,19 +191,30 @@ module _ (f : Setting) (c : SilkDecoderControl) (k : ℕ) (row : List ℤ) (adj 
       go true = length-refilled past m (λ i. smulwb (inverse_gain_q31 c k) (residual buffer row f.lpc_order i)) h
       go false = length-refilled past m (λ i. smulww adj (get_or past i (pos 0))) h
 
-  pub past_at-fits : ((i : ℕ) → SFits w32 (get_or past i (pos 0))) → (i : ℕ) → SFits w32 (get_or (past_at f c k row adj buffer past) i (pos 0))
-  unfolding past_at
-  past_at-fits h = go (rewhitens f k)
-    where
-      m : ℕ
-      m = nat_abs (get_or c.pitch_l k (pos 0)) + 2
-
-      go : (b : Bool) (i : ℕ) → SFits w32 (get_or (cond b (refilled past m (λ i. smulwb (inverse_gain_q31 c k) (residual buffer row f.lpc_order i))) (refilled past m (λ i. smulww adj (get_or past i (pos 0))))) i (pos 0))
-      go true = refilled-fits past m (λ i. smulwb (inverse_gain_q31 c k) (residual buffer row f.lpc_order i)) h (λ i. smulwb-fits _ _)
-      go false = refilled-fits past m (λ i. smulww adj (get_or past i (pos 0))) h (λ i. smulww-fits _ _)
-
 pub ltp_past-fits : (past taps : List ℤ) (lag : ℕ) (e : List ℤ) (n : ℕ) → ((i : ℕ) → SFits w32 (get_or past i (pos 0))) → (i : ℕ) → SFits w32 (get_or (ltp_past past taps lag e n) i (pos 0))
 unfolding ltp_past
 ltp_past-fits past taps lag e zero h = h
 ltp_past-fits past taps lag e (suc n) h =
     append-fits (ltp_past past taps lag e n) _ (ltp_past-fits past taps lag e n h) (one-fits _ (wrap-fits w32 _))
+
+-- the places in use of a long-term state after a synthesis
+module _ (q taps : List ℤ) (lag idx : ℕ) (e : List ℤ) (v : Words w32 640 q) (h : idx + length e ≤ 640) where
+  X : List ℤ
+  X = ltp_past (take idx q) taps lag e (length e)
+
+  length-X : length X ≡ idx + length e
+  unfolding X
+  length-X =
+      length-ltp_past (take idx q) taps e idx lag (length e) ∙ ap (λ (i : ℕ). i + length e) (length-take-le idx q (omega (arith, v.count)))
+
+  pub synthesised-view : take (idx + length e) (ltp_past (take idx q) taps lag e (length e) ++ drop (idx + length e) q) ≡ ltp_past (take idx q) taps lag e (length e)
+  unfolding X
+  synthesised-view = take_at X (drop (idx + length e) q) (idx + length e) length-X
+
+  pub synthesised-words : Words w32 640 (ltp_past (take idx q) taps lag e (length e) ++ drop (idx + length e) q)
+  unfolding X
+  synthesised-words =
+      record {
+        count = length-append X (drop (idx + length e) q) ∙ omega (arith, length-X, length-drop (idx + length e) q, v.count);
+        fits = append-fits X (drop (idx + length e) q) (ltp_past-fits (take idx q) taps lag e (length e) (take-fits idx q v.fits)) (drop-fits (idx + length e) q v.fits);
+      }

@@ -87,6 +87,7 @@ unfoldable pub setting_of : Shape → SilkDecoderState → Params → Setting
 setting_of p s q =
     let voiced = is_voiced q.signal in
     record {
+      nb_subfr = p.subframes;
       subfr_length = subfr_length p;
       ltp_mem_length = mem_length p;
       lpc_order = lpc_order p;

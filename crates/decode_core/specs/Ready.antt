@@ -1,7 +1,5 @@
 -- What the code of a subframe asks for and leaves.
 use Rattle.std.specs.Prelude.{ℕ, ◌+◌, ◌*◌, ◌<◌, ◌≤◌, ◌≡◌, true, cond, ◌&&◌, List, [], ◌++◌, ◌⊎◌, ℤ, pos, nat_abs, get_or, take, drop, replicate}
-use Rattle.std.specs.Int.{w32}
-use Rattle.decoder.specs.Typed.{Words}
 use Rattle.decoder.specs.declared.SilkDecoderControl.{SilkDecoderControl}
 use Rattle.decode_core.specs.Core.{Core, ltp_past, ltp_synthesis, transits, held_lag, long, rewhitens, control_at, buffer_at, past_at}
 use Rattle.decode_core.specs.declared.Carried.{Carried}
@@ -27,29 +25,27 @@ pub record Ready (f : Setting) (c : SilkDecoderControl) (k idx : ℕ) : Type 0 w
   pub low : f.ltp_mem_length ≤ idx
   pub high : idx ≤ f.ltp_mem_length + f.subfr_length * k
 
--- what long-term prediction of subframe k leaves: of the history ob, the long-term state before, its places in use, and the residual from e
-pub record LongTerm (f : Setting) (c : SilkDecoderControl) (k : ℕ) (row : List ℤ) (adjustment : ℤ) (samples ob ob' before after : List ℤ) (idx idx' : ℕ) (e res : List ℤ) : Type 0 where
+-- what long-term prediction of subframe k leaves: of the history ob, the long-term state before, and the residual from e
+pub record LongTerm (f : Setting) (c : SilkDecoderControl) (k : ℕ) (row : List ℤ) (adjustment : ℤ) (samples ob ob' before after e res : List ℤ) : Type 0 where
   pub buffer : ob' ≡ cond (long f k && rewhitens f k) (buffer_at f k ob samples) ob
-  pub past : take idx' after ≡ cond (long f k) (ltp_past (past_at f c k row adjustment (buffer_at f k ob samples) (take idx before)) (take 5 (drop (5 * k) c.ltp_coef_q14)) (nat_abs (get_or c.pitch_l k (pos 0))) e f.subfr_length) (take idx before)
-  pub residual : res ≡ cond (long f k) (ltp_synthesis (past_at f c k row adjustment (buffer_at f k ob samples) (take idx before)) (take 5 (drop (5 * k) c.ltp_coef_q14)) (nat_abs (get_or c.pitch_l k (pos 0))) e f.subfr_length) e
-  pub words : Words w32 640 after
-  pub places : idx' ≡ idx + cond (long f k) f.subfr_length 0
+  pub past : after ≡ cond (long f k) (ltp_past (past_at f c k row adjustment (buffer_at f k ob samples) before) (take 5 (drop (5 * k) c.ltp_coef_q14)) (nat_abs (get_or c.pitch_l k (pos 0))) e f.subfr_length) before
+  pub residual : res ≡ cond (long f k) (ltp_synthesis (past_at f c k row adjustment (buffer_at f k ob samples) before) (take 5 (drop (5 * k) c.ltp_coef_q14)) (nat_abs (get_or c.pitch_l k (pos 0))) e f.subfr_length) e
 
--- subframe k, from what the subframes before it carry on
-pub record Playable (f : Setting) (b : Carried) (k : ℕ) : Type 0 where
+-- subframe k by a description c, idx places of the long-term state in use
+pub record Playable (f : Setting) (c : SilkDecoderControl) (k idx : ℕ) : Type 0 where
   pub sized : Sized f
   pub place : k < 4
-  pub gain : get_or b.control.gains_q16 k (pos 0) ≡ pos 0 → ⊥
-  pub lag : long f k ≡ true → Lag f (get_or (control_at f b.control k).pitch_l k (pos 0))
-  pub low : f.ltp_mem_length ≤ b.idx
-  pub high : b.idx ≤ f.ltp_mem_length + f.subfr_length * k
+  pub gain : get_or c.gains_q16 k (pos 0) ≡ pos 0 → ⊥
+  pub lag : long f k ≡ true → Lag f (get_or (control_at f c k).pitch_l k (pos 0))
+  pub low : f.ltp_mem_length ≤ idx
+  pub high : idx ≤ f.ltp_mem_length + f.subfr_length * k
 
 -- what the code holds of the definition's values
 abbrev pub held : Carried → List ℤ → List ℤ → List ℤ → List ℤ → Core
 held b past signal buffer samples =
     record {
       control = b.control;
-      past = take b.idx past;
+      past = past;
       memory = take 16 signal;
       gain = b.gain;
       buffer = buffer;

@@ -2,10 +2,11 @@
 // Inner: every function but silk_decode_core and core_excitation.
 #![tactic(auto)]
 
-ghost use Rattle.std.specs.Prelude.{◌≡◌, true, cond, not, ◌&&◌, ◌⊎◌, [], map, ◌++◌, ◌+◌, ◌-◌, ◌*◌, ◌≤◌, ◌<◌, pos, nat_abs, length, take, drop, get_or, replicate};
+ghost use Rattle.std.specs.Prelude.{◌≡◌, true, cond, not, ◌&&◌, ◌⊎◌, [], map, ◌++◌, ◌+◌, ◌-◌, ◌*◌, ◌≤◌, ◌<◌, List, ℤ, pos, nat_abs, length, take, drop, get_or, replicate};
 ghost use Rattle.std.specs.Int.Signed.{lt_z};
 ghost use Rattle.word.specs.Int.{eq_ℤ};
 ghost use Rattle.shape.specs.Shape.{frame_length, count_of};
+ghost use Rattle.shape.specs.Order.{size};
 ghost use Rattle.decoder.specs.Ranges.{within};
 ghost use Rattle.decoder.specs.State.{shape_of};
 ghost use Rattle.macros.specs.Fixed.{smulwb, smulww};
@@ -23,13 +24,16 @@ use decoder::{Answer, Params, SilkDecoderControl, SilkDecoderState, is_voiced};
 use excitation::{excite, offset_q14};
 use macros::{silk_add_lshift32, silk_div32_varq, silk_inverse32_varq, silk_smulwb, silk_smulww};
 use refusal::Refusal;
-use shape::{Rate, count_of};
+use shape::{Order, Rate, count_of};
 use sigproc::{copy_at, ltp_prediction, scale_out, silk_lpc_analysis_filter, synthesis};
+use std::marker::Model;
 use word::{shl32, wide8, wide16};
 
 // What the subframes of a frame share. A transition, a frame that is not voiced after the loss of a voiced one, has that one's lag.
+// voiced and interpolated are two facts of their own, each read as a condition alone.
 #[derive(Clone, Copy)]
 pub struct Setting {
+    pub nb_subfr: usize,
     pub subfr_length: usize,
     pub ltp_mem_length: usize,
     pub lpc_order: usize,
@@ -38,14 +42,57 @@ pub struct Setting {
     pub transition: Option<i32>,
 }
 
-// What the subframes carry on beside their buffers: idx places of the long-term state are in use.
+// What the subframes carry on beside their buffers.
 #[derive(Clone, Copy)]
 pub struct Carried {
     pub control: SilkDecoderControl,
     pub gain: i32,
-    pub idx: usize,
 }
 
+// What a frame changes beside the excitation: the description, and a state's fields.
+#[derive(Clone, Copy)]
+pub struct Parts {
+    pub carried: Carried,
+    pub s_lpc_q14_buf: [i32; 16],
+    pub out_buf: [i16; 480],
+}
+
+// What the subframes are made from; the setting has the order as a number, which is 0 for a number that is no rate.
+#[derive(Clone, Copy)]
+struct Source<'a> {
+    setting: Setting,
+    order: Order,
+    rows: [[i16; 16]; 2],
+    exc: &'a [i32],
+    ghost order_is: { size order ≡ setting.lpc_order },
+}
+
+// Subframe k, its description and row, and the change of gain before it (Q16).
+#[derive(Clone, Copy)]
+struct Subframe {
+    k: usize,
+    control: SilkDecoderControl,
+    row: [i16; 16],
+    adj: i32,
+    ghost place: { k < 4 },
+}
+
+// The long-term state (Q15): its first idx places are in use.
+#[derive(Drop)]
+struct Past {
+    q15: [i32; 640],
+    idx: usize,
+}
+
+impl Model for Past {
+    ghost Value = { List ℤ };
+
+    ghost view = { λ p. take p.idx p.q15 };
+
+    ghost invariant = { λ p. Words w32 640 p.q15 × (p.idx ≤ 640) };
+}
+
+#[tactic(auto, using(macros::proofs::Kept::words), unfolding(crate::specs::Core::gain_adjustment))]
 fn gain_adjustment(last: i32, gain: i32) -> i32
     requires { gain ≡ pos 0 → ⊥ }
     ensures { result ≡ gain_adjustment last gain }
@@ -76,26 +123,6 @@ fn weigh(past: &mut [i32], residual: &[i16], inverse: i32)
     }
 }
 
-// The last lag + 2 places before idx anew: the filter reads the history from its start place on and fills the same stretch.
-fn rewhiten(
-    past: &mut [i32],
-    idx: usize,
-    lag: usize,
-    out_buf: &[i16],
-    row: &[i16; 16],
-    d: usize,
-    inverse: i32,
-)
-    requires { ((d ≡ 10) ⊎ (d ≡ 16)) × (d + lag + 2 ≤ idx) × (idx ≤ 480) × (length out_buf.now ≡ 480) × (idx ≤ length past.old) }
-    ensures { past.new ≡ refilled (take idx past.old) (lag + 2) (λ i. smulwb inverse (residual out_buf.now row.now d i)) ++ drop idx past.old }
-{
-    let from = idx - lag - 2;
-    let start = from - d;
-    let mut residual = [0; 480];
-    silk_lpc_analysis_filter(&mut residual[start..idx], &out_buf[start..idx], row, d);
-    weigh(&mut past[from..idx], &residual[from..idx], inverse);
-}
-
 // The residual from the excitation in res, and the long-term state behind its first idx places.
 fn ltp_synthesis(past: &mut [i32], idx: usize, taps: [i16; 5], lag: usize, res: &mut [i32])
     requires { (3 ≤ lag) × (lag + 2 ≤ idx) × (idx + length res.old ≤ length past.old) }
@@ -107,6 +134,50 @@ fn ltp_synthesis(past: &mut [i32], idx: usize, taps: [i16; 5], lag: usize, res: 
         let v = silk_add_lshift32(*r, p, 1);
         *r = v;
         past[idx + i] = shl32(v, 1);
+    }
+}
+
+impl Past {
+    // The last lag + 2 places anew: the filter reads the history from its start place on and fills the same stretch.
+    fn rewhiten(
+        &mut self,
+        lag: usize,
+        out_buf: &[i16; 480],
+        row: &[i16; 16],
+        order: Order,
+        inverse: i32,
+    )
+        requires { (size order + lag + 2 ≤ length self.old) × (length self.old ≤ 480) }
+        ensures { self.new ≡ refilled self.old (lag + 2) (λ i. smulwb inverse (residual out_buf.now row.now (size order) i)) }
+    {
+        let idx = self.idx;
+        let from = idx - lag - 2;
+        let start = from - order.size();
+        let mut residual = [0; 480];
+        silk_lpc_analysis_filter(&mut residual[start..idx], &out_buf[start..idx], row, order);
+        weigh(&mut self.q15[from..idx], &residual[from..idx], inverse);
+    }
+
+    // The last lag + 2 places by an adjustment of the gain; one by 65,536 leaves them as they are.
+    fn adjust(&mut self, lag: usize, adj: i32)
+        requires { lag + 2 ≤ length self.old }
+        ensures { self.new ≡ refilled self.old (lag + 2) (λ i. smulww adj (get_or self.old i (pos 0))) }
+    {
+        if adj != 65536 {
+            let idx = self.idx;
+            let from = idx - lag - 2;
+            adjust(&mut self.q15[from..idx], adj);
+        }
+    }
+
+    // The residual from the excitation in res, and the state behind it.
+    fn ltp_synthesis(&mut self, taps: [i16; 5], lag: usize, res: &mut [i32])
+        requires { (3 ≤ lag) × (lag + 2 ≤ length self.old) × (length self.old + length res.old ≤ 640) }
+        ensures { (self.new ≡ ltp_past self.old taps lag res.old (length res.old)) × (res.new ≡ ltp_synthesis self.old taps lag res.old (length res.old)) }
+    {
+        let idx = self.idx;
+        ltp_synthesis(&mut self.q15, idx, taps, lag, res);
+        self.idx = idx + res.len();
     }
 }
 
@@ -129,16 +200,17 @@ fn keep(signal: &mut [i32])
 }
 
 // The samples that the memory and the residual in signal make; their last 16 are the new memory.
-fn lpc_synthesis(signal: &mut [i32], row: &[i16; 16], d: usize, gain: i32, xq: &mut [i16])
-    requires { ((d ≡ 10) ⊎ (d ≡ 16)) × (length signal.old ≡ 16 + length xq.old) }
-    ensures { (take 16 signal.new ≡ drop (length xq.old) (synthesis (take 16 signal.old) (drop 16 signal.old) row.now d (length xq.old)))
-        × (xq.new ≡ map (played gain) (drop 16 (synthesis (take 16 signal.old) (drop 16 signal.old) row.now d (length xq.old)))) }
+fn lpc_synthesis(signal: &mut [i32], row: &[i16; 16], order: Order, gain: i32, xq: &mut [i16])
+    requires { length signal.old ≡ 16 + length xq.old }
+    ensures { (take 16 signal.new ≡ drop (length xq.old) (synthesis (take 16 signal.old) (drop 16 signal.old) row.now (size order) (length xq.old)))
+        × (xq.new ≡ map (played gain) (drop 16 (synthesis (take 16 signal.old) (drop 16 signal.old) row.now (size order) (length xq.old)))) }
 {
-    synthesis(signal, row, d);
+    synthesis(signal, row, order);
     scale_out(xq, &signal[16..], gain);
     keep(signal);
 }
 
+#[tactic(auto, using(macros::proofs::Kept::words), unfolding(crate::specs::Core::smoothed))]
 fn smoothed(c: SilkDecoderControl, lag: i32, k: usize) -> SilkDecoderControl
     requires { k < 4 }
     ensures { result ≡ smoothed c lag k }
@@ -163,16 +235,35 @@ fn control_at(f: Setting, c: SilkDecoderControl, k: usize) -> SilkDecoderControl
     }
 }
 
-// The inverse of subframe k's gain (Q31), in subframe 0 times the LTP scale.
-fn inverse_gain_q31(c: SilkDecoderControl, k: usize) -> i32
-    requires { k < 4 }
-    ensures { result ≡ inverse_gain_q31 c k }
-{
-    let inverse = silk_inverse32_varq(c.gains_q16[k], 47);
-    if k == 0 {
-        shl32(silk_smulwb(inverse, c.ltp_scale_q14), 2)
-    } else {
-        inverse
+impl Subframe {
+    // The inverse of the gain (Q31), in subframe 0 times the LTP scale.
+    #[tactic(auto, using(macros::proofs::Kept::words), unfolding(crate::specs::Core::inverse_gain_q31))]
+    fn inverse_gain_q31(&self) -> i32
+        ensures { result ≡ inverse_gain_q31 self.now.control self.now.k }
+    {
+        let inverse = silk_inverse32_varq(self.control.gains_q16[self.k], 47);
+        if self.k == 0 {
+            shl32(silk_smulwb(inverse, self.control.ltp_scale_q14), 2)
+        } else {
+            inverse
+        }
+    }
+
+    // The lag as a length.
+    fn lag(&self) -> usize
+        requires { get_or self.now.control.pitch_l self.now.k (pos 0) ≡ pos (nat_abs (get_or self.now.control.pitch_l self.now.k (pos 0))) }
+        ensures { result ≡ nat_abs (get_or self.now.control.pitch_l self.now.k (pos 0)) }
+    {
+        self.control.pitch_l[self.k] as usize
+    }
+
+    fn taps(&self) -> [i16; 5]
+        ensures { result ≡ take 5 (drop (5 * self.now.k) self.now.control.ltp_coef_q14) }
+    {
+        let at = 5 * self.k;
+        let mut five = [0; 5];
+        five.copy_from_slice(&self.control.ltp_coef_q14[at..at + 5]);
+        five
     }
 }
 
@@ -182,66 +273,14 @@ fn rewhitens(f: Setting, k: usize) -> bool
     k == 0 || (k == 2 && f.interpolated)
 }
 
-// A lag as a length.
-fn lag_at(lags: [i32; 4], k: usize) -> usize
-    requires { (k < 4) × (get_or lags k (pos 0) ≡ pos (nat_abs (get_or lags k (pos 0)))) }
-    ensures { result ≡ nat_abs (get_or lags k (pos 0)) }
-{
-    lags[k] as usize
-}
-
-fn taps_at(taps: [i16; 20], k: usize) -> [i16; 5]
-    requires { k < 4 }
-    ensures { result ≡ take 5 (drop (5 * k) taps) }
-{
-    let at = 5 * k;
-    let mut five = [0; 5];
-    five.copy_from_slice(&taps[at..at + 5]);
-    five
-}
-
 // The history that rewhitening reads: for subframe 2 the first two subframes follow it.
+#[tactic(auto, unfolding(crate::specs::Core::buffer_at))]
 fn buffer_at(f: Setting, k: usize, out_buf: &mut [i16], played: &[i16])
     requires { k ≡ 2 → f.ltp_mem_length + length played.now ≤ length out_buf.old }
     ensures { out_buf.new ≡ buffer_at f k out_buf.old played.now }
 {
     if k == 2 {
         copy_at(out_buf, f.ltp_mem_length, played);
-    }
-}
-
-// The long-term state that subframe k starts from. A change of gain by 65,536 leaves it as it is.
-fn past_at(
-    f: Setting,
-    c: SilkDecoderControl,
-    k: usize,
-    row: &[i16; 16],
-    adj: i32,
-    played: &[i16],
-    out_buf: &mut [i16],
-    past: &mut [i32],
-    idx: usize,
-)
-    requires { Ready f c k idx × (length played.now ≡ f.subfr_length * k) × (length out_buf.old ≡ 480) × Words w32 640 past.old }
-    ensures { (out_buf.new ≡ cond (rewhitens f k) (buffer_at f k out_buf.old played.now) out_buf.old)
-        × (past.new ≡ past_at f c k row.now adj (buffer_at f k out_buf.old played.now) (take idx past.old) ++ drop idx past.old) }
-{
-    let lags = c.pitch_l;
-    let lag = lag_at(lags, k);
-    if rewhitens(f, k) {
-        buffer_at(f, k, out_buf, played);
-        rewhiten(
-            past,
-            idx,
-            lag,
-            out_buf,
-            row,
-            f.lpc_order,
-            inverse_gain_q31(c, k),
-        );
-    } else if adj != 65536 {
-        let from = idx - lag - 2;
-        adjust(&mut past[from..idx], adj);
     }
 }
 
@@ -252,132 +291,120 @@ fn long(f: Setting, k: usize) -> bool
     (f.transition.is_some() && k < 2) || f.voiced
 }
 
-// Subframe k's residual from the excitation in res; the places of the long-term state in use after it.
-fn long_term(
-    f: Setting,
-    c: SilkDecoderControl,
-    k: usize,
-    row: &[i16; 16],
-    adj: i32,
-    played: &[i16],
-    out_buf: &mut [i16],
-    past: &mut [i32],
-    idx: usize,
-    res: &mut [i32],
-) -> usize
-    requires { (long f k ≡ true → Ready f c k idx) × (length played.now ≡ f.subfr_length * k) × (length out_buf.old ≡ 480) × Words w32 640 past.old × (length res.old ≡ f.subfr_length) }
-    ensures { LongTerm f c k row.now adj played.now out_buf.old out_buf.new past.old past.new idx result res.old res.new }
-{
-    if long(f, k) {
-        let lags = c.pitch_l;
-        let taps = c.ltp_coef_q14;
-        past_at(f, c, k, row, adj, played, out_buf, past, idx);
-        ltp_synthesis(past, idx, taps_at(taps, k), lag_at(lags, k), res);
-        return idx + f.subfr_length;
+impl Source<'_> {
+    // The long-term state that a subframe starts from.
+    fn past_at(&self, s: &Subframe, played: &[i16], out_buf: &mut [i16; 480], past: &mut Past)
+        requires { Ready self.now.setting s.now.control s.now.k (length past.old) × (length played.now ≡ self.now.setting.subfr_length * s.now.k) }
+        ensures { (out_buf.new ≡ cond (rewhitens self.now.setting s.now.k) (buffer_at self.now.setting s.now.k out_buf.old played.now) out_buf.old)
+            × (past.new ≡ past_at self.now.setting s.now.control s.now.k s.now.row s.now.adj (buffer_at self.now.setting s.now.k out_buf.old played.now) past.old) }
+    {
+        let lag = s.lag();
+        if rewhitens(self.setting, s.k) {
+            buffer_at(self.setting, s.k, out_buf, played);
+            past.rewhiten(lag, out_buf, &s.row, self.order, s.inverse_gain_q31());
+        } else {
+            past.adjust(lag, s.adj);
+        }
     }
-    idx
-}
 
-// Subframe k: signal holds the memory in front. The buffers are lent one by one, since each step takes another part of them.
-fn subframe(
-    f: Setting,
-    k: usize,
-    rows: [[i16; 16]; 2],
-    exc: &[i32],
-    b: Carried,
-    signal: &mut [i32],
-    past: &mut [i32],
-    out_buf: &mut [i16],
-    xq: &mut [i16],
-) -> Carried
-    requires { Playable f b k × (f.subfr_length * k + f.subfr_length ≤ length exc.now) × (length signal.old ≡ 16 + f.subfr_length) × Words w32 640 past.old × (length out_buf.old ≡ 480) × (f.subfr_length * k + f.subfr_length ≤ length xq.old) }
-    ensures { (held result past.new signal.new out_buf.new (take (f.subfr_length * k + f.subfr_length) xq.new) ≡ subframe f rows exc.now k (held b past.old signal.old out_buf.old (take (f.subfr_length * k) xq.old)))
-        × (drop (f.subfr_length * k + f.subfr_length) xq.new ≡ drop (f.subfr_length * k + f.subfr_length) xq.old)
-        × Words w32 640 past.new × (result.idx ≡ b.idx + cond (long f k) f.subfr_length 0) }
-{
-    let n = f.subfr_length;
-    let at = n * k;
-    let end = at + n;
-    let before = b.control;
-    let c = control_at(f, before, k);
-    let row = rows[k / 2];
-    let gain = c.gains_q16[k];
-    let adj = gain_adjustment(b.gain, gain);
-    load(signal, &exc[at..end], adj);
-    let idx = long_term(
-        f,
-        c,
-        k,
-        &row,
-        adj,
-        &xq[..at],
-        out_buf,
-        past,
-        b.idx,
-        &mut signal[16..],
-    );
-    lpc_synthesis(signal, &row, f.lpc_order, gain, &mut xq[at..end]);
-    Carried {
-        control: c,
-        gain,
-        idx,
+    // A subframe's residual from the excitation in res.
+    fn long_term(
+        &self,
+        s: &Subframe,
+        played: &[i16],
+        out_buf: &mut [i16; 480],
+        past: &mut Past,
+        res: &mut [i32],
+    )
+        requires { (long self.now.setting s.now.k ≡ true → Ready self.now.setting s.now.control s.now.k (length past.old)) × (length played.now ≡ self.now.setting.subfr_length * s.now.k) × (length res.old ≡ self.now.setting.subfr_length) }
+        ensures { LongTerm self.now.setting s.now.control s.now.k s.now.row s.now.adj played.now out_buf.old out_buf.new past.old past.new res.old res.new }
+    {
+        if long(self.setting, s.k) {
+            self.past_at(s, played, out_buf, past);
+            past.ltp_synthesis(s.taps(), s.lag(), res);
+        }
     }
-}
 
-// The first n subframes.
-fn subframes(
-    f: Setting,
-    n: usize,
-    rows: [[i16; 16]; 2],
-    exc: &[i32],
-    b: Carried,
-    signal: &mut [i32],
-    past: &mut [i32],
-    out_buf: &mut [i16],
-    xq: &mut [i16],
-) -> Carried
-    requires { Framed f b.control n × (b.idx ≡ f.ltp_mem_length) × (f.subfr_length * n ≤ length exc.now) × (length signal.old ≡ 16 + f.subfr_length) × Words w32 640 past.old × (length out_buf.old ≡ 480) × (f.subfr_length * n ≤ length xq.old) }
-    ensures { (held result past.new signal.new out_buf.new (take (f.subfr_length * n) xq.new) ≡ subframes f rows exc.now (held b past.old signal.old out_buf.old []) n)
-        × (drop (f.subfr_length * n) xq.new ≡ drop (f.subfr_length * n) xq.old) }
-{
-    let mut t = b;
-    for k in 0..n {
-        t = subframe(f, k, rows, exc, t, signal, past, out_buf, xq);
+    // Subframe k: signal holds the memory in front. The buffers are lent one by one, since each step takes another part of them.
+    fn subframe(
+        &self,
+        k: usize,
+        b: Carried,
+        past: &mut Past,
+        signal: &mut [i32],
+        out_buf: &mut [i16; 480],
+        xq: &mut [i16],
+    ) -> Carried
+        requires { Playable self.now.setting b.control k (length past.old) × (self.now.setting.subfr_length * k + self.now.setting.subfr_length ≤ length self.now.exc.now)
+            × (length signal.old ≡ 16 + self.now.setting.subfr_length) × (self.now.setting.subfr_length * k + self.now.setting.subfr_length ≤ length xq.old) }
+        ensures { (held result past.new signal.new out_buf.new (take (self.now.setting.subfr_length * k + self.now.setting.subfr_length) xq.new) ≡ subframe self.now.setting self.now.rows self.now.exc.now k (held b past.old signal.old out_buf.old (take (self.now.setting.subfr_length * k) xq.old)))
+            × (drop (self.now.setting.subfr_length * k + self.now.setting.subfr_length) xq.new ≡ drop (self.now.setting.subfr_length * k + self.now.setting.subfr_length) xq.old)
+            × (length past.new ≡ length past.old + cond (long self.now.setting k) self.now.setting.subfr_length 0) × (length out_buf.new ≡ 480) }
+    {
+        let n = self.setting.subfr_length;
+        let at = n * k;
+        let end = at + n;
+        let before = b.control;
+        let control = control_at(self.setting, before, k);
+        let gain = control.gains_q16[k];
+        let adj = gain_adjustment(b.gain, gain);
+        let row = self.rows[k / 2];
+        load(signal, &self.exc[at..end], adj);
+        let s = Subframe {
+            k,
+            control,
+            row,
+            adj,
+        };
+        self.long_term(&s, &xq[..at], out_buf, past, &mut signal[16..]);
+        lpc_synthesis(signal, &s.row, self.order, gain, &mut xq[at..end]);
+        Carried { control, gain }
     }
-    t
-}
 
-// A frame of n subframes from its excitation; memory is the short-term memory before it and after.
-fn synthesise(
-    f: Setting,
-    n: usize,
-    rows: [[i16; 16]; 2],
-    exc: &[i32],
-    b: Carried,
-    memory: &mut [i32],
-    out_buf: &mut [i16],
-    xq: &mut [i16],
-) -> Carried
-    requires { Framed f b.control n × (b.idx ≡ f.ltp_mem_length) × (f.subfr_length * n ≤ length exc.now) × (length memory.old ≡ 16) × (length out_buf.old ≡ 480) × (f.subfr_length * n ≤ length xq.old) }
-    ensures { Left (subframes f rows exc.now (begin f b memory.old out_buf.old) n) result memory.new out_buf.new xq.new (drop (f.subfr_length * n) xq.old) }
-{
-    let end = 16 + f.subfr_length;
-    let mut signal = [0; 96];
-    let mut past = [0; 640];
-    copy_at(&mut signal, 0, memory);
-    let t = subframes(
-        f,
-        n,
-        rows,
-        exc,
-        b,
-        &mut signal[..end],
-        &mut past,
-        out_buf,
-        xq,
-    );
-    copy_at(memory, 0, &signal[..16]);
-    t
+    // All subframes.
+    fn subframes(
+        &self,
+        b: Carried,
+        past: &mut Past,
+        signal: &mut [i32],
+        out_buf: &mut [i16; 480],
+        xq: &mut [i16],
+    ) -> Carried
+        requires { Framed self.now.setting b.control self.now.setting.nb_subfr × (length past.old ≡ self.now.setting.ltp_mem_length) × (self.now.setting.subfr_length * self.now.setting.nb_subfr ≤ length self.now.exc.now)
+            × (length signal.old ≡ 16 + self.now.setting.subfr_length) × (self.now.setting.subfr_length * self.now.setting.nb_subfr ≤ length xq.old) }
+        ensures { (held result past.new signal.new out_buf.new (take (self.now.setting.subfr_length * self.now.setting.nb_subfr) xq.new) ≡ subframes self.now.setting self.now.rows self.now.exc.now (held b past.old signal.old out_buf.old []) self.now.setting.nb_subfr)
+            × (drop (self.now.setting.subfr_length * self.now.setting.nb_subfr) xq.new ≡ drop (self.now.setting.subfr_length * self.now.setting.nb_subfr) xq.old) }
+    {
+        let mut t = b;
+        // A turn reads what the turn before left; k names its gain, lag, taps, row and stretches.
+        for k in 0..self.setting.nb_subfr {
+            t = self.subframe(k, t, past, signal, out_buf, xq);
+        }
+        t
+    }
+
+    // The frame; memory is the short-term memory before it and after.
+    fn synthesise(
+        &self,
+        b: Carried,
+        memory: &mut [i32; 16],
+        out_buf: &mut [i16; 480],
+        xq: &mut [i16],
+    ) -> Carried
+        requires { Framed self.now.setting b.control self.now.setting.nb_subfr × (self.now.setting.subfr_length * self.now.setting.nb_subfr ≤ length self.now.exc.now) × (self.now.setting.subfr_length * self.now.setting.nb_subfr ≤ length xq.old) }
+        ensures { Left (subframes self.now.setting self.now.rows self.now.exc.now (begin self.now.setting b memory.old out_buf.old) self.now.setting.nb_subfr) result memory.new out_buf.new xq.new (drop (self.now.setting.subfr_length * self.now.setting.nb_subfr) xq.old) }
+    {
+        let end = 16 + self.setting.subfr_length;
+        let mut signal = [0; 96];
+        let mut past = Past {
+            q15: [0; 640],
+            idx: self.setting.ltp_mem_length,
+        };
+        copy_at(&mut signal, 0, memory);
+        let t = self.subframes(b, &mut past, &mut signal[..end], out_buf, xq);
+        copy_at(memory, 0, &signal[..16]);
+        t
+    }
 }
 
 fn transition(loss_cnt: i32, prev_signal_type: i32, voiced: bool) -> bool
@@ -403,12 +430,14 @@ pub fn setting_of(s: SilkDecoderState, q: Params) -> Setting
     let khz = s.fs_khz;
     let signal = q.signal;
     let voiced = is_voiced(signal);
+    let nb_subfr = count_of(s.nb_subfr);
     let subfr_length = Rate::subfr_length(khz);
     let ltp_mem_length = Rate::ltp_mem_length(khz);
     let lpc_order = Rate::lpc_order(khz);
     let transition = transition(s.loss_cnt, s.prev_signal_type, voiced).then_some(s.lag_prev);
     let interpolated = interpolates(q.nlsf_interp_coef_q2);
     Setting {
+        nb_subfr,
         subfr_length,
         ltp_mem_length,
         lpc_order,
@@ -418,27 +447,30 @@ pub fn setting_of(s: SilkDecoderState, q: Params) -> Setting
     }
 }
 
-// A received frame that no row refuses: exc, memory and out_buf are the state's, before it and after.
+// A received frame that no row refuses. Its seven parameters: document 01 has rows and pulses beside the frame, and a caller lends its excitation.
 pub fn decode_core(
     f: Setting,
     q: Params,
-    count: usize,
-    b: Carried,
     rows: [[i16; 16]; 2],
     pulses: &[i16],
     exc: &mut [i32],
-    memory: &mut [i32],
-    out_buf: &mut [i16],
+    p: &mut Parts,
     xq: &mut [i16],
-) -> Carried
-    requires { Framed f b.control count × (b.idx ≡ f.ltp_mem_length) × (f.subfr_length * count ≤ length pulses.now) × (f.subfr_length * count ≤ length exc.old) × (length memory.old ≡ 16) × (length out_buf.old ≡ 480) × (f.subfr_length * count ≤ length xq.old) }
-    ensures { (exc.new ≡ excitation (offset_q14 f.voiced q.quant_offset_type) pulses.now q.seed (f.subfr_length * count) ++ drop (f.subfr_length * count) exc.old)
-        × Left (subframes f rows (excitation (offset_q14 f.voiced q.quant_offset_type) pulses.now q.seed (f.subfr_length * count)) (begin f b memory.old out_buf.old) count) result memory.new out_buf.new xq.new (drop (f.subfr_length * count) xq.old) }
+)
+    requires { Framed f p.old.carried.control f.nb_subfr × (f.subfr_length * f.nb_subfr ≤ length pulses.now) × (f.subfr_length * f.nb_subfr ≤ length exc.old) × (f.subfr_length * f.nb_subfr ≤ length xq.old) }
+    ensures { (exc.new ≡ excitation (offset_q14 f.voiced q.quant_offset_type) pulses.now q.seed (f.subfr_length * f.nb_subfr) ++ drop (f.subfr_length * f.nb_subfr) exc.old)
+        × Left (subframes f rows (excitation (offset_q14 f.voiced q.quant_offset_type) pulses.now q.seed (f.subfr_length * f.nb_subfr)) (begin f p.old.carried p.old.s_lpc_q14_buf p.old.out_buf) f.nb_subfr) p.new.carried p.new.s_lpc_q14_buf p.new.out_buf xq.new (drop (f.subfr_length * f.nb_subfr) xq.old) }
 {
-    let n = f.subfr_length * count;
+    let n = f.subfr_length * f.nb_subfr;
     let offset = offset_q14(f.voiced, q.quant_offset_type);
     excite(&mut exc[..n], pulses, offset, wide8(q.seed));
-    synthesise(f, count, rows, &exc[..n], b, memory, out_buf, xq)
+    let source = Source {
+        setting: f,
+        order: Order::from_size(f.lpc_order),
+        rows,
+        exc: &exc[..n],
+    };
+    p.carried = source.synthesise(p.carried, &mut p.s_lpc_q14_buf, &mut p.out_buf, xq);
 }
 
 // The state and the description after a frame.
@@ -454,33 +486,27 @@ fn decoded(
     ensures { (result.state ≡ (decode_core (shape_of s) s q c rows pulses.now).state) × (result.control ≡ (decode_core (shape_of s) s q c rows pulses.now).control)
         × (xq.new ≡ (decode_core (shape_of s) s q c rows pulses.now).samples ++ drop (frame_length (shape_of s)) xq.old) }
 {
-    let count = count_of(s.nb_subfr);
     let f = setting_of(s, q);
-    let mut exc = s.exc_q14;
-    let mut memory = s.s_lpc_q14_buf;
-    let mut out_buf = s.out_buf;
-    let b = Carried {
+    let carried = Carried {
         control: c,
         gain: s.prev_gain_q16,
-        idx: f.ltp_mem_length,
     };
-    let r = decode_core(
-        f,
-        q,
-        count,
-        b,
-        rows,
-        pulses,
-        &mut exc,
-        &mut memory,
-        &mut out_buf,
-        xq,
-    );
-    let control = r.control;
+    let mut exc = s.exc_q14;
+    let s_lpc_q14_buf = s.s_lpc_q14_buf;
+    let out_buf = s.out_buf;
+    let mut p = Parts {
+        carried,
+        s_lpc_q14_buf,
+        out_buf,
+    };
+    decode_core(f, q, rows, pulses, &mut exc, &mut p, xq);
+    let control = p.carried.control;
+    let s_lpc_q14_buf = p.s_lpc_q14_buf;
+    let out_buf = p.out_buf;
     let mut t = s;
-    t.prev_gain_q16 = r.gain;
+    t.prev_gain_q16 = p.carried.gain;
     t.exc_q14 = exc;
-    t.s_lpc_q14_buf = memory;
+    t.s_lpc_q14_buf = s_lpc_q14_buf;
     t.out_buf = out_buf;
     Answer { state: t, control }
 }
@@ -495,7 +521,7 @@ pub fn silk_decode_core(
 ) -> Result<Answer, Refusal>
     ensures { (result ≡ core_answer s q c rows pulses.now xq.old) × (xq.new ≡ core_output s q c rows pulses.now xq.old) }
 {
-    judge::core(s, q, c, pulses.len(), xq.len())?;
+    judge::core(&s, q, &c, pulses.len(), xq.len())?;
     Ok(decoded(s, q, c, rows, pulses, xq))
 }
 

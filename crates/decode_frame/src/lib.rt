@@ -18,51 +18,43 @@ ghost use Rattle.decode_frame.specs.Call.{frame_call};
 ghost use Rattle.decode_frame.specs.Answer.{frame_refusal, frame_answer, frame_output};
 ghost use Rattle.decode_frame.specs.Standard.{FrameStandard};
 
-use decode_core::{Carried, decode_core, setting_of};
-use decoder::{Answer, Frame, Params, SilkDecoderControl, SilkDecoderState, reshaped, squelched};
+use decode_core::{Carried, Parts, decode_core, setting_of};
+use decoder::{Answer, Frame, Params, SilkDecoderControl, SilkDecoderState, reshape, squelched};
 use glue::{leave_energy, receive};
 use plc::conceal::plc_conceal;
 use plc::update::type_number;
 use refusal::Refusal;
-use shape::Rate;
+use shape::{FrameShape, Rate};
 use sigproc::{update_out_buf, with_front};
 
-#[inline(always)]
-fn remembered(s: SilkDecoderState, frame: &[i16]) -> SilkDecoderState
-    requires { (is_rate s.fs_khz ≡ true) × (is_count s.nb_subfr ≡ true) × (length frame.now ≡ frame_length (shape_of s)) }
-    ensures { result ≡ remembered (shape_of s) s frame.now }
+fn remembered(a: &mut Answer, frame: &[i16])
+    requires { (is_rate a.old.state.fs_khz ≡ true) × (is_count a.old.state.nb_subfr ≡ true) × (length frame.now ≡ frame_length (shape_of a.old.state)) }
+    ensures { a.new ≡ record { state = remembered (shape_of a.old.state) a.old.state frame.now; control = a.old.control } }
 {
-    let mut t = s;
-    let held = s.out_buf;
-    let new = update_out_buf(held, Rate::ltp_mem_length(s.fs_khz), frame);
-    t.out_buf = new;
-    t
+    let n = Rate::ltp_mem_length(a.state.fs_khz);
+    a.state.out_buf = update_out_buf(a.state.out_buf, n, frame);
 }
 
 // Noise, the energy for gluing and lag_prev of a lost frame.
-#[inline(always)]
-fn finished(s: SilkDecoderState, c: SilkDecoderControl, xq: &mut [i16]) -> SilkDecoderState
-    requires { (is_rate s.fs_khz ≡ true) × (is_count s.nb_subfr ≡ true) × (cng_fits (rate_of s.fs_khz) s.s_cng ≡ true) × (length xq.old ≡ frame_length (shape_of s)) × (eq_ℤ s.loss_cnt (pos 0) ≡ false) }
-    ensures { record { state = result; control = c; samples = xq.new } ≡ finished (shape_of s) (record { state = s; control = c; samples = xq.old }) }
+fn finished(a: &mut Answer, xq: &mut [i16])
+    requires { (is_rate a.old.state.fs_khz ≡ true) × (is_count a.old.state.nb_subfr ≡ true) × (cng_fits (rate_of a.old.state.fs_khz) a.old.state.s_cng ≡ true)
+        × (length xq.old ≡ frame_length (shape_of a.old.state)) × (eq_ℤ a.old.state.loss_cnt (pos 0) ≡ false) }
+    ensures { record { state = a.new.state; control = a.new.control; samples = xq.new } ≡ finished (shape_of a.old.state) (record { state = a.old.state; control = a.old.control; samples = xq.old }) }
 {
-    let plc = s.s_plc;
-    let noise = s.s_cng;
-    let lags = c.pitch_l;
-    let settings = s.settings;
-    let s_cng = cng::lost(
-        noise,
-        s.fs_khz,
-        settings.edition,
+    let plc = a.state.s_plc;
+    let edition = a.state.settings.edition;
+    let khz = a.state.fs_khz;
+    let n = shape::count_of(a.state.nb_subfr);
+    cng::lost(
+        &mut a.state.s_cng,
+        khz,
+        edition,
         plc.rand_scale_q14,
         plc.prev_gain_q16[1],
         xq,
     );
-    let s_plc = leave_energy(plc, xq);
-    let mut t = s;
-    t.lag_prev = lags[shape::count_of(s.nb_subfr) - 1];
-    t.s_cng = s_cng;
-    t.s_plc = s_plc;
-    t
+    a.state.s_plc = leave_energy(plc, xq);
+    a.state.lag_prev = a.control.pitch_l[n - 1];
 }
 
 // Zeros for all samples, where b holds.
@@ -74,130 +66,111 @@ fn mute(b: bool, xq: &mut [i16])
     }
 }
 
-#[inline(always)]
-fn lost(s: SilkDecoderState, c: SilkDecoderControl, xq: &mut [i16]) -> Answer
-    requires { Accepted (rate_of s.fs_khz) s × (eq_ℤ s.loss_cnt (pos 2147483647) ≡ false) × (length xq.old ≡ frame_length (shape_of s)) }
-    ensures { record { state = result.state; control = result.control; samples = xq.new } ≡ muted (shape_of s) (squelched s) (lost (shape_of s) s c) }
+fn lost(a: &mut Answer, xq: &mut [i16])
+    requires { Accepted (rate_of a.old.state.fs_khz) a.old.state × (eq_ℤ a.old.state.loss_cnt (pos 2147483647) ≡ false) × (length xq.old ≡ frame_length (shape_of a.old.state)) }
+    ensures { record { state = a.new.state; control = a.new.control; samples = xq.new }
+        ≡ muted (shape_of a.old.state) (squelched a.old.state) (lost (shape_of a.old.state) a.old.state a.old.control) }
 {
-    let o = plc_conceal(s, c, xq);
-    let concealed = o.state;
-    let control = o.control;
-    let t = remembered(concealed, xq);
-    let u = finished(t, control, xq);
-    mute(squelched(s), xq);
-    Answer { state: u, control }
+    let quiet = squelched(&a.state);
+    *a = plc_conceal(a.state, a.control, xq);
+    remembered(a, xq);
+    finished(a, xq);
+    mute(quiet, xq);
 }
 
 fn received(
-    s: SilkDecoderState,
+    a: &mut Answer,
     q: Params,
-    c: SilkDecoderControl,
     rows: [[i16; 16]; 2],
     lines: [i16; 16],
     pulses: &[i16],
     xq: &mut [i16],
-) -> Answer
-    requires { Accepted (rate_of s.fs_khz) s × Framed (setting_of (shape_of s) s q) c (count_of s.nb_subfr) × (frame_length (shape_of s) ≤ length pulses.now) × (length xq.old ≡ frame_length (shape_of s)) }
-    ensures { record { state = result.state; control = result.control; samples = xq.new } ≡ received (shape_of s) s q c rows lines pulses.now }
+)
+    requires { Accepted (rate_of a.old.state.fs_khz) a.old.state × Framed (setting_of (shape_of a.old.state) a.old.state q) a.old.control (count_of a.old.state.nb_subfr)
+        × (frame_length (shape_of a.old.state) ≤ length pulses.now) × (length xq.old ≡ frame_length (shape_of a.old.state)) }
+    ensures { record { state = a.new.state; control = a.new.control; samples = xq.new } ≡ received (shape_of a.old.state) a.old.state q a.old.control rows lines pulses.now }
 {
+    let s = a.state;
     let khz = s.fs_khz;
     let nb = s.nb_subfr;
     let signal = q.signal;
     let count = shape::count_of(nb);
     let f = setting_of(s, q);
-    let mut exc = s.exc_q14;
-    let mut memory = s.s_lpc_q14_buf;
-    let mut out_buf = s.out_buf;
-    let b = Carried {
-        control: c,
+    let carried = Carried {
+        control: a.control,
         gain: s.prev_gain_q16,
-        idx: f.ltp_mem_length,
     };
-    let r = decode_core(
-        f,
-        q,
-        count,
-        b,
-        rows,
-        pulses,
-        &mut exc,
-        &mut memory,
-        &mut out_buf,
-        xq,
-    );
-    let control = r.control;
+    let mut exc = s.exc_q14;
+    let s_lpc_q14_buf = s.s_lpc_q14_buf;
+    let out_buf = s.out_buf;
+    let mut p = Parts {
+        carried,
+        s_lpc_q14_buf,
+        out_buf,
+    };
+    decode_core(f, q, rows, pulses, &mut exc, &mut p, xq);
+    let control = p.carried.control;
+    let gain = p.carried.gain;
+    let memory = p.s_lpc_q14_buf;
+    let played = p.out_buf;
     let gains = control.gains_q16;
     let lags = control.pitch_l;
     let before = s.prev_nlsf_q15;
     let nlsf = with_front(before, lines, f.lpc_order);
-    let history = update_out_buf(out_buf, f.ltp_mem_length, xq);
+    let history = update_out_buf(played, f.ltp_mem_length, xq);
     let held = s.s_plc;
     let updated = plc::update::received(held, khz, nb, signal, control, rows);
     let kind = type_number(signal);
-    let noise = s.s_cng;
-    let s_cng = cng::received(noise, &exc, nlsf, &gains, khz, nb, kind);
-    let s_plc = receive(updated, xq);
-    let settings = s.settings;
-    let state = SilkDecoderState {
-        prev_gain_q16: r.gain,
-        exc_q14: exc,
-        s_lpc_q14_buf: memory,
-        out_buf: history,
-        lag_prev: lags[count - 1],
+    let mut s_cng = s.s_cng;
+    let shape = FrameShape {
         fs_khz: khz,
         nb_subfr: nb,
-        frame_length: s.frame_length,
-        subfr_length: s.subfr_length,
-        ltp_mem_length: s.ltp_mem_length,
-        lpc_order: s.lpc_order,
-        prev_nlsf_q15: nlsf,
-        first_frame_after_reset: 0,
-        s_cng,
-        loss_cnt: 0,
-        prev_signal_type: kind,
-        s_plc,
-        settings,
     };
-    Answer { state, control }
+    cng::received(&mut s_cng, &exc, nlsf, &gains, shape, kind);
+    let s_plc = receive(updated, xq);
+    a.control = control;
+    a.state.prev_gain_q16 = gain;
+    a.state.exc_q14 = exc;
+    a.state.s_lpc_q14_buf = memory;
+    a.state.out_buf = history;
+    a.state.lag_prev = lags[count - 1];
+    a.state.prev_nlsf_q15 = nlsf;
+    a.state.first_frame_after_reset = 0;
+    a.state.s_cng = s_cng;
+    a.state.loss_cnt = 0;
+    a.state.prev_signal_type = kind;
+    a.state.s_plc = s_plc;
 }
 
-// A received frame of a coming shape that no row refuses. A Result of a state would be copied, so a program whose state lies in slices calls this.
-#[inline(always)]
+// A received frame of a coming shape that no row refuses, on a state and a description that are lent: by value they would be copied.
 pub fn play_received(
-    s: SilkDecoderState,
+    a: &mut Answer,
     khz: i32,
     nb_subfr: i32,
     q: Params,
-    c: SilkDecoderControl,
     rows: [[i16; 16]; 2],
     lines: [i16; 16],
     pulses: &[i16],
     xq: &mut [i16],
-) -> Answer
-    requires { code_of (frame_refusal s (frame_call khz nb_subfr (Received q) c rows lines pulses.now xq.old)) ≡ 0 }
-    ensures { (Ok result ≡ frame_answer s (frame_call khz nb_subfr (Received q) c rows lines pulses.now xq.old))
-        × (xq.new ≡ frame_output s (frame_call khz nb_subfr (Received q) c rows lines pulses.now xq.old)) }
+)
+    requires { code_of (frame_refusal a.old.state (frame_call khz nb_subfr (Received q) a.old.control rows lines pulses.now xq.old)) ≡ 0 }
+    ensures { (Ok a.new ≡ frame_answer a.old.state (frame_call khz nb_subfr (Received q) a.old.control rows lines pulses.now xq.old))
+        × (xq.new ≡ frame_output a.old.state (frame_call khz nb_subfr (Received q) a.old.control rows lines pulses.now xq.old)) }
 {
     let n = shape::frame_length(khz, nb_subfr);
-    let t = reshaped(s, khz, nb_subfr);
-    received(t, q, c, rows, lines, pulses, &mut xq[..n])
+    reshape(&mut a.state, khz, nb_subfr);
+    received(a, q, rows, lines, pulses, &mut xq[..n]);
 }
 
 // A lost one, likewise.
-#[inline(always)]
-pub fn play_lost(
-    s: SilkDecoderState,
-    khz: i32,
-    nb_subfr: i32,
-    c: SilkDecoderControl,
-    xq: &mut [i16],
-) -> Answer
-    requires { code_of (frame_refusal s (frame_call khz nb_subfr Lost c [] [] [] xq.old)) ≡ 0 }
-    ensures { (Ok result ≡ frame_answer s (frame_call khz nb_subfr Lost c [] [] [] xq.old)) × (xq.new ≡ frame_output s (frame_call khz nb_subfr Lost c [] [] [] xq.old)) }
+pub fn play_lost(a: &mut Answer, khz: i32, nb_subfr: i32, xq: &mut [i16])
+    requires { code_of (frame_refusal a.old.state (frame_call khz nb_subfr Lost a.old.control [] [] [] xq.old)) ≡ 0 }
+    ensures { (Ok a.new ≡ frame_answer a.old.state (frame_call khz nb_subfr Lost a.old.control [] [] [] xq.old))
+        × (xq.new ≡ frame_output a.old.state (frame_call khz nb_subfr Lost a.old.control [] [] [] xq.old)) }
 {
     let n = shape::frame_length(khz, nb_subfr);
-    let t = reshaped(s, khz, nb_subfr);
-    lost(t, c, &mut xq[..n])
+    reshape(&mut a.state, khz, nb_subfr);
+    lost(a, &mut xq[..n]);
 }
 
 // A received frame of a coming shape: refused, it changes nothing.
@@ -215,8 +188,13 @@ pub fn received_frame(
     ensures { (result ≡ frame_answer s (frame_call khz nb_subfr (Received q) c rows lines pulses.now xq.old))
         × (xq.new ≡ frame_output s (frame_call khz nb_subfr (Received q) c rows lines pulses.now xq.old)) }
 {
-    judge::received(s, khz, nb_subfr, q, c, lines, pulses.len(), xq.len())?;
-    Ok(play_received(s, khz, nb_subfr, q, c, rows, lines, pulses, xq))
+    judge::received(&s, khz, nb_subfr, q, &c, &lines, pulses.len(), xq.len())?;
+    let mut a = Answer {
+        state: s,
+        control: c,
+    };
+    play_received(&mut a, khz, nb_subfr, q, rows, lines, pulses, xq);
+    Ok(a)
 }
 
 // A lost frame of a coming shape: refused, it changes nothing.
@@ -229,8 +207,13 @@ pub fn lost_frame(
 ) -> Result<Answer, Refusal>
     ensures { (result ≡ frame_answer s (frame_call khz nb_subfr Lost c [] [] [] xq.old)) × (xq.new ≡ frame_output s (frame_call khz nb_subfr Lost c [] [] [] xq.old)) }
 {
-    judge::lost(s, khz, nb_subfr, xq.len())?;
-    Ok(play_lost(s, khz, nb_subfr, c, xq))
+    judge::lost(&s, khz, nb_subfr, xq.len())?;
+    let mut a = Answer {
+        state: s,
+        control: c,
+    };
+    play_lost(&mut a, khz, nb_subfr, xq);
+    Ok(a)
 }
 
 pub fn silk_decode_frame(

@@ -18,7 +18,7 @@ ghost use Rattle.decoder.specs.Claims.{SameShape};
 use edition::{NEWER, is_edition};
 use refusal::{Refusal, refuse_if};
 use shape::Rate;
-use word::{mul32, sum64, wide, wide16};
+use word::{Number, mul32, sum64, wide, wide16};
 
 // Comfort noise's part of the state.
 #[derive(Clone, Copy)]
@@ -118,18 +118,6 @@ pub struct Answer {
     pub control: SilkDecoderControl,
 }
 
-pub fn both(a: bool, b: bool) -> bool
-    ensures { result ≡ (a && b) }
-{
-    if a { b } else { false }
-}
-
-pub fn either(a: bool, b: bool) -> bool
-    ensures { result ≡ (a || b) }
-{
-    if a { true } else { b }
-}
-
 // An `if` in place would split decoder_fits into eight ways, each with an answer of its own.
 fn chosen(c: bool, a: i32, b: i32) -> i32
     ensures { result ≡ cond c a b }
@@ -149,30 +137,6 @@ pub fn within(low: i32, high: i32, z: i32) -> bool
     ensures { result ≡ within low high z }
 {
     (low <= z) & (z <= high)
-}
-
-// A number of up to 32 bits.
-pub trait Number: Copy {
-    ghost number: { Self → ℤ };
-
-    fn number(self) -> i32
-        ensures { result ≡ number self };
-}
-
-impl Number for i16 {
-    ghost number = { λ x. x };
-
-    fn number(self) -> i32 {
-        i32::from(self)
-    }
-}
-
-impl Number for i32 {
-    ghost number = { λ x. x };
-
-    fn number(self) -> i32 {
-        self
-    }
 }
 
 // The first n elements lie in low to high.
@@ -218,23 +182,21 @@ fn subframes_held(khz: i32, n: i32, l: i32) -> bool
 }
 
 // What concealment holds for its own rate.
-fn plc_held(khz: i32, h: SilkPLCState) -> bool
-    ensures { result ≡ plc_held (rate_of khz) h }
+fn plc_held(khz: i32, h: &SilkPLCState) -> bool
+    ensures { result ≡ plc_held (rate_of khz) h.now }
 {
     let low = mul32(256, Rate::lag_min(khz));
     let high = mul32(256, Rate::lag_max(khz));
-    let gains = h.prev_gain_q16;
     within(low, high, h.pitch_l_q8)
-        & all_within(65536, 1686110208, &gains, 2)
+        & all_within(65536, 1686110208, &h.prev_gain_q16, 2)
         & subframes_held(khz, h.nb_subfr, h.subfr_length)
 }
 
-fn plc_fits(khz: i32, h: SilkPLCState) -> bool
-    ensures { result ≡ plc_fits (rate_of khz) h }
+fn plc_fits(khz: i32, h: &SilkPLCState) -> bool
+    ensures { result ≡ plc_fits (rate_of khz) h.now }
 {
-    let taps = h.ltp_coef_q14;
     within(0, 1, h.last_frame_lost)
-        & taps_held(&taps)
+        & taps_held(&h.ltp_coef_q14)
         & within(0, 27840, wide16(h.rand_scale_q14))
         & within(0, 16384, wide16(h.prev_ltp_scale_q14))
         & (0 <= h.conc_energy)
@@ -242,20 +204,18 @@ fn plc_fits(khz: i32, h: SilkPLCState) -> bool
         & (!equals(h.fs_khz, shape::rate_of(khz)) | plc_held(khz, h))
 }
 
-fn cng_fits(khz: i32, h: SilkCNGState) -> bool
-    ensures { result ≡ cng_fits (rate_of khz) h }
+fn cng_fits(khz: i32, h: &SilkCNGState) -> bool
+    ensures { result ≡ cng_fits (rate_of khz) h.now }
 {
-    let lines = h.cng_smth_nlsf_q15;
-    let held = lines_fit(khz, &lines) & within(0, 1686110208, h.cng_smth_gain_q16);
+    let held = lines_fit(khz, &h.cng_smth_nlsf_q15) & within(0, 1686110208, h.cng_smth_gain_q16);
     !equals(h.fs_khz, shape::rate_of(khz)) | held
 }
 
 // The fields of the decoder's own, as a coming rate leaves them.
-fn decoder_fits(s: SilkDecoderState, khz: i32) -> bool
-    ensures { (nb : ℤ) → result ≡ decoder_fits (rate_of khz) (reshaped khz nb s) }
+fn decoder_fits(s: &SilkDecoderState, khz: i32) -> bool
+    ensures { (nb : ℤ) → result ≡ decoder_fits (rate_of khz) (reshaped khz nb s.now) }
 {
     let kept = khz == s.fs_khz;
-    let lines = s.prev_nlsf_q15;
     let lag = chosen(kept, s.lag_prev, 100);
     let kind = chosen(kept, s.prev_signal_type, 0);
     let first = chosen(kept, s.first_frame_after_reset, 1);
@@ -264,7 +224,7 @@ fn decoder_fits(s: SilkDecoderState, khz: i32) -> bool
         & within(0, 2, kind)
         & within(65536, 1686110208, s.prev_gain_q16)
         & within(0, 1, first)
-        & lines_fit(khz, &lines)
+        & lines_fit(khz, &s.prev_nlsf_q15)
 }
 
 fn is_squelch(q: i32) -> bool
@@ -280,23 +240,23 @@ fn settings_fit(v: Settings) -> bool
 }
 
 // A loss now makes the count the squelch or more.
-pub fn squelched(s: SilkDecoderState) -> bool
-    ensures { result ≡ squelched s }
+pub fn squelched(s: &SilkDecoderState) -> bool
+    ensures { result ≡ squelched s.now }
 {
     let v = s.settings;
     (0 < v.squelch) & (wide(v.squelch) <= sum64(s.loss_cnt, 1))
 }
 
 // Row 1.
-pub fn rate_row(s: SilkDecoderState) -> bool
-    ensures { result ≡ rate_row s }
+pub fn rate_row(s: &SilkDecoderState) -> bool
+    ensures { result ≡ rate_row s.now }
 {
     !shape::is_rate(s.fs_khz)
 }
 
 // Row 2.
-pub fn size_row(s: SilkDecoderState) -> bool
-    ensures { result ≡ size_row s }
+pub fn size_row(s: &SilkDecoderState) -> bool
+    ensures { result ≡ size_row s.now }
 {
     let khz = s.fs_khz;
     let ok = shape::is_count(s.nb_subfr)
@@ -307,18 +267,14 @@ pub fn size_row(s: SilkDecoderState) -> bool
     !ok
 }
 
-// Row 3, on the state as a coming rate leaves it. Where it isn't inlined a caller copies the state.
-#[inline(always)]
-pub fn history_row(s: SilkDecoderState, khz: i32) -> bool
-    ensures { (nb : ℤ) → result ≡ history_row (rate_of khz) (reshaped khz nb s) }
+// Row 3, on the state as a coming rate leaves it.
+pub fn history_row(s: &SilkDecoderState, khz: i32) -> bool
+    ensures { (nb : ℤ) → result ≡ history_row (rate_of khz) (reshaped khz nb s.now) }
 {
-    let plc = s.s_plc;
-    let cng = s.s_cng;
-    let settings = s.settings;
     let ok = decoder_fits(s, khz)
-        & plc_fits(khz, plc)
-        & cng_fits(khz, cng)
-        & settings_fit(settings);
+        & plc_fits(khz, &s.s_plc)
+        & cng_fits(khz, &s.s_cng)
+        & settings_fit(s.settings);
     !ok
 }
 
@@ -402,38 +358,35 @@ fn length_number(n: usize) -> i32
 }
 
 // A rate, a count of subframes, and the lengths and the order that follow from them.
-fn with_shape(s: SilkDecoderState, khz: i32, nb_subfr: i32) -> SilkDecoderState
-    ensures { result ≡ with_shape s khz nb_subfr }
+fn with_shape(s: &mut SilkDecoderState, khz: i32, nb_subfr: i32)
+    ensures { s.new ≡ with_shape s.old khz nb_subfr }
 {
     let frame_length = length_number(shape::frame_length(khz, nb_subfr));
     let subfr_length = length_number(Rate::subfr_length(khz));
     let ltp_mem_length = length_number(Rate::ltp_mem_length(khz));
     let lpc_order = length_number(Rate::lpc_order(khz));
-    let mut t = s;
-    t.fs_khz = khz;
-    t.nb_subfr = nb_subfr;
-    t.frame_length = frame_length;
-    t.subfr_length = subfr_length;
-    t.ltp_mem_length = ltp_mem_length;
-    t.lpc_order = lpc_order;
-    t
+    s.fs_khz = khz;
+    s.nb_subfr = nb_subfr;
+    s.frame_length = frame_length;
+    s.subfr_length = subfr_length;
+    s.ltp_mem_length = ltp_mem_length;
+    s.lpc_order = lpc_order;
 }
 
-// The state as a coming rate and count of subframes leave it.
-#[tactic(auto, using(crate::proofs::Held::held_rate))]
-pub fn reshaped(s: SilkDecoderState, khz: i32, nb_subfr: i32) -> SilkDecoderState
-    ensures { result ≡ reshaped khz nb_subfr s }
+// The state becomes as a coming rate and count of subframes leave it.
+pub fn reshape(s: &mut SilkDecoderState, khz: i32, nb_subfr: i32)
+    ensures { s.new ≡ reshaped khz nb_subfr s.old }
 {
-    let mut t = with_shape(s, khz, nb_subfr);
-    if khz == s.fs_khz {
-        return t;
+    let held = s.fs_khz;
+    with_shape(s, khz, nb_subfr);
+    if khz == held {
+        return;
     }
-    t.s_lpc_q14_buf = [0; 16];
-    t.out_buf = [0; 480];
-    t.lag_prev = 100;
-    t.first_frame_after_reset = 1;
-    t.prev_signal_type = 0;
-    t
+    s.s_lpc_q14_buf = [0; 16];
+    s.out_buf = [0; 480];
+    s.lag_prev = 100;
+    s.first_frame_after_reset = 1;
+    s.prev_signal_type = 0;
 }
 
 // A coming shape that is the one held changes nothing.
@@ -470,7 +423,8 @@ fn silk_default() -> SilkDecoderState
 fn state_from(khz: i32, nb_subfr: i32, settings: Settings) -> SilkDecoderState
     ensures { result ≡ state_from khz nb_subfr settings }
 {
-    let mut t = with_shape(silk_default(), khz, nb_subfr);
+    let mut t = silk_default();
+    with_shape(&mut t, khz, nb_subfr);
     t.settings = settings;
     t
 }

@@ -12,7 +12,8 @@ use mir.Syntax.{w16, w32}
 use mir.Val.{SFits}
 use Rattle.word.specs.Int.{wrap32}
 use Rattle.word.proofs.Sizes.{abs-add, abs-sub, abs-mul, abs_neg, fits-abs, abs-fits}
-use Rattle.word.proofs.Words.{wrap_id, wrap_add_l, wrap_neg}
+use mir.Facts.{to_z-of_z}
+use Rattle.word.proofs.Words.{kept, wrap_id, wrap_add_l, wrap_neg, wrap-wrap}
 use Rattle.word.proofs.Lists.{length_snoc, grow}
 use Rattle.macros.specs.Fixed.{rand}
 use Rattle.excitation.specs.Excitation.{level, excited, generator_at, excitation}
@@ -65,3 +66,5 @@ pub excite_turn : (offset : ℤ) (pulses : List ℤ) (seed : ℤ) (d : List ℤ)
 unfolding excitation
 excite_turn offset pulses seed d i h =
     grow (excitation offset pulses seed i) d i _ (length-excitation offset pulses seed i) h
+
+pub ruleset levels = (kept, to_z-of_z, level-word, wrap-wrap)

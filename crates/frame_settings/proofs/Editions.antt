@@ -11,7 +11,8 @@ use Rattle.decoder.specs.declared.Frame.{Frame}
 use Rattle.decoder.specs.declared.Frame.TheVariants.{Received, Lost}
 use Rattle.decode_frame.specs.Call.{Call}
 use Rattle.decode_frame.specs.Answer.{frame_refusal}
-use Rattle.frame_settings.specs.Editions.{under, answer_under, ReceivedAlike}
+use Rattle.frame_settings.specs.Changed.{answer_by}
+use Rattle.frame_settings.specs.Editions.{under, ReceivedAlike}
 use Rattle.frame_settings.proofs.With.{refusal_with, answer_left, output-left, changed}
 
 is_lost : Frame → Bool
@@ -36,7 +37,7 @@ received-alike s x q f =
     let j = frame_refusal (under newer s) x in
     let k = refused s x q f in
     let answer =
-    answer_left s x j (by older s) k (never s x q f) ∙ changed (answer_under older) j _ _ refl (λ r. refl)
-    ∙ sym (ap (answer_under older) (answer_left s x j (by newer s) refl (never s x q f))) in
+    answer_left s x j (by older s) k (never s x q f) ∙ changed (answer_by (under older)) j _ _ refl (λ r. refl)
+    ∙ sym (ap (answer_by (under older)) (answer_left s x j (by newer s) refl (never s x q f))) in
     let output = output-left s x j (by older s) k (never s x q f) (never s x q f) ∙ sym (output-left s x j (by newer s) refl (never s x q f) (never s x q f)) in
     (answer, output)

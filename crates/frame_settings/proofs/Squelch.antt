@@ -17,7 +17,8 @@ use Rattle.decoder.specs.declared.Frame.TheVariants.{Lost}
 use Rattle.decode_frame.specs.WholeFrame.{lost, muted, whole_frame}
 use Rattle.decode_frame.specs.Call.{Call, shape_at, state_at}
 use Rattle.decode_frame.specs.Answer.{frame_refusal, frame_outcome, frame_output}
-use Rattle.frame_settings.specs.Squelch.{with_squelch, answer_with, StateAsBefore, SamplesAsBefore, LostAsBefore, PlaysZeros}
+use Rattle.frame_settings.specs.Changed.{answer_by}
+use Rattle.frame_settings.specs.Squelch.{with_squelch, StateAsBefore, SamplesAsBefore, LostAsBefore, PlaysZeros}
 use Rattle.frame_settings.proofs.With.{refusal_with, answer_left, output-left, changed}
 
 -- the settings of a state, with another squelch
@@ -32,8 +33,8 @@ module _ (q : ℤ) (s : SilkDecoderState) (x : Call) (e : is_squelch q ≡ true)
 pub state_as_before : StateAsBefore
 state_as_before q s x e =
     let j = frame_refusal (with_squelch (pos 0) s) x in
-    answer_left s x j (by q s) (refused q s x e) (λ z. refl) ∙ changed (answer_with q) j _ _ refl (λ r. refl)
-    ∙ sym (ap (answer_with q) (answer_left s x j (by (pos 0) s) refl (λ z. refl)))
+    answer_left s x j (by q s) (refused q s x e) (λ z. refl) ∙ changed (answer_by (with_squelch q)) j _ _ refl (λ r. refl)
+    ∙ sym (ap (answer_by (with_squelch q)) (answer_left s x j (by (pos 0) s) refl (λ z. refl)))
 
 pub samples_as_before : SamplesAsBefore
 unfolding squelched

@@ -1,3 +1,4 @@
 -- The definitions that the contracts cite.
+pub mod Changed
 pub mod Squelch
 pub mod Editions

@@ -145,7 +145,8 @@ impl Narrow for i32 {
     }
 }
 
-// Draw at of a seed, scaled.
+// Draw at of a seed, scaled. The range is two numbers: as a struct with the fact in a ghost field it would be made anew at
+// each draw, and the fact would be a goal there as it is now.
 pub fn pick<T: Narrow>(seed: i32, at: u64, low: i32, count: u32) -> T
     requires { SFits T.width low × SFits T.width (low +ℤ pos (count - 1)) }
     ensures { T.value result ≡ pick low count seed at }

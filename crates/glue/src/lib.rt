@@ -16,6 +16,16 @@ use refusal::Refusal;
 use sigproc::silk_sum_sqr_shift;
 use word::{add32, low16, shl32, shr32, sub32, wide16};
 
+// An energy, not negative, that was shifted down by a shift of 0 to 31.
+#[derive(Clone, Copy)]
+struct ShiftedEnergy {
+    energy: i32,
+    shift: i32,
+    ghost natural: { energy ≡ pos (nat_abs energy) },
+    ghost places: { shift ≡ pos (nat_abs shift) },
+    ghost most: { nat_abs shift ≤ 31 },
+}
+
 // A sample times a gain (Q16); the cast to 16 bits cuts.
 fn scaled(gain: i32, x: i16) -> i16
     ensures { result ≡ wrap16 (smulwb gain x) }
@@ -36,12 +46,11 @@ fn ramp(frame: &mut [i16], gain: i32, slope: i32)
     }
 }
 
-// A number shifted down by what one shift is above another.
-fn lowered(energy: i32, to: i32, from: i32) -> i32
-    requires { (energy ≡ pos (nat_abs energy)) × (to ≡ pos (nat_abs to)) × (nat_abs to ≤ 31) × (from ≡ pos (nat_abs from)) × (nat_abs from ≤ 31) }
-    ensures { result ≡ pos (lowered energy (nat_abs to) (nat_abs from)) }
+// An energy at the larger of its shift and another's.
+fn lowered(e: ShiftedEnergy, other: ShiftedEnergy) -> i32
+    ensures { result ≡ pos (lowered e.energy (nat_abs other.shift) (nat_abs e.shift)) }
 {
-    shr32(energy, silk_max_32(sub32(to, from), 0))
+    shr32(e.energy, silk_max_32(sub32(other.shift, e.shift), 0))
 }
 
 fn start_gain(concealed: i32, received: i32) -> i32
@@ -61,13 +70,18 @@ fn slope_of(gain: i32, n: i32) -> i32
     shl32(silk_div32(sub32(65536, gain), n), 2)
 }
 
-fn join(frame: &mut [i16], energy: i32, held: i32)
-    requires { (1 ≤ length frame.old) × (length frame.old ≤ 320) × (energy ≡ pos (nat_abs energy)) × (held ≡ pos (nat_abs held)) × (nat_abs held ≤ 31) }
-    ensures { frame.new ≡ joined energy held frame.old }
+// A frame's length is asked as a clause: as a type it would wrap the slice that each caller lends.
+fn join(frame: &mut [i16], held: ShiftedEnergy)
+    requires { (1 ≤ length frame.old) × (length frame.old ≤ 320) }
+    ensures { frame.new ≡ joined held.energy held.shift frame.old }
 {
     let e = silk_sum_sqr_shift(frame);
-    let received = lowered(e.energy, held, e.shift);
-    let concealed = lowered(energy, e.shift, held);
+    let own = ShiftedEnergy {
+        energy: e.energy,
+        shift: e.shift,
+    };
+    let received = lowered(own, held);
+    let concealed = lowered(held, own);
     if concealed < received {
         let gain = start_gain(concealed, received);
         let slope = slope_of(gain, frame.len() as i32);
@@ -99,7 +113,11 @@ pub fn receive(h: SilkPLCState, frame: &mut [i16]) -> SilkPLCState
     if h.last_frame_lost == 0 {
         return t;
     }
-    join(frame, h.conc_energy, h.conc_energy_shift);
+    let held = ShiftedEnergy {
+        energy: h.conc_energy,
+        shift: h.conc_energy_shift,
+    };
+    join(frame, held);
     t
 }
 
@@ -127,6 +145,6 @@ pub fn silk_plc_glue_frames(
 ) -> Result<SilkDecoderState, Refusal>
     ensures { (result ≡ glue_answer s frame.old n) × (frame.new ≡ glue_output s frame.old n) }
 {
-    judge::glue(s, frame.len(), n)?;
+    judge::glue(&s, frame.len(), n)?;
     Ok(glue_frames(s, &mut frame[..n]))
 }

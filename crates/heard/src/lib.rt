@@ -2,14 +2,14 @@
 // Inner: every function.
 #![tactic(auto)]
 
-ghost use Rattle.std.specs.Prelude.{◌≡◌, ◌+◌, ◌*◌, ◌≤◌, length};
-ghost use Rattle.record.specs.Recorded.{lost};
-ghost use Rattle.recording.specs.Frames.{recorded_at};
+ghost use Rattle.std.specs.Prelude.{◌≡◌};
+ghost use Rattle.record.specs.Recorded.{lost, recorded_in};
 ghost use Rattle.playback.specs.Playback.{call_of};
 ghost use Rattle.heard.specs.Loud.{any_beyond, heard_in, heard_of};
 
 use decoder::SilkDecoderState;
-use playback::{Sound, lost_sound, sound_at};
+use playback::{Sound, frame_sound, lost_sound};
+use record::Record;
 use shape::frame_length;
 
 // The state stays beside the flag: it is promised of a loud frame too.
@@ -44,17 +44,15 @@ pub fn lost_heard(s: SilkDecoderState, khz: i32, nb_subfr: i32, limit: i32) -> H
     heard_in(limit, khz, nb_subfr, lost_sound(s, khz, nb_subfr))
 }
 
-// The frame of record i.
-pub fn heard_at(
+// The frame of a record.
+pub fn frame_heard(
     s: SilkDecoderState,
     khz: i32,
     nb_subfr: i32,
-    bytes: &[u8],
-    i: u8,
+    record: &Record,
     limit: i32,
 ) -> Heard
-    requires { 1024 * i + 1024 ≤ length bytes.now }
-    ensures { result ≡ heard_of limit s (call_of khz nb_subfr (recorded_at bytes.now i)) }
+    ensures { result ≡ heard_of limit s (call_of khz nb_subfr (recorded_in record.now.bytes.now)) }
 {
-    heard_in(limit, khz, nb_subfr, sound_at(s, khz, nb_subfr, bytes, i))
+    heard_in(limit, khz, nb_subfr, frame_sound(s, khz, nb_subfr, record))
 }

@@ -68,21 +68,19 @@ fn signal_row(q: Params) -> bool
     !ok
 }
 
-fn gain_row(nb_subfr: i32, c: SilkDecoderControl) -> bool
-    ensures { result ≡ gain_row (count_of nb_subfr) c }
+fn gain_row(nb_subfr: i32, c: &SilkDecoderControl) -> bool
+    ensures { result ≡ gain_row (count_of nb_subfr) c.now }
 {
-    let gains = c.gains_q16;
-    !all_within(81920, 1686110208, &gains, count_of(nb_subfr))
+    !all_within(81920, 1686110208, &c.gains_q16, count_of(nb_subfr))
 }
 
-fn lag_row(fs_khz: i32, nb_subfr: i32, q: Params, c: SilkDecoderControl) -> bool
-    ensures { result ≡ lag_row (shape fs_khz nb_subfr) q c }
+fn lag_row(fs_khz: i32, nb_subfr: i32, q: Params, c: &SilkDecoderControl) -> bool
+    ensures { result ≡ lag_row (shape fs_khz nb_subfr) q c.now }
 {
     let signal = q.signal;
-    let lags = c.pitch_l;
     let low = Rate::lag_min(fs_khz);
     let high = Rate::lag_max(fs_khz);
-    let ok = all_within(low, high, &lags, count_of(nb_subfr));
+    let ok = all_within(low, high, &c.pitch_l, count_of(nb_subfr));
     is_voiced(signal) & !ok
 }
 
@@ -98,19 +96,18 @@ fn taps_fit(taps: &[i16; 20], n: usize) -> bool
     ok
 }
 
-fn taps_row(nb_subfr: i32, q: Params, c: SilkDecoderControl) -> bool
-    ensures { result ≡ taps_row (count_of nb_subfr) q c }
+fn taps_row(nb_subfr: i32, q: Params, c: &SilkDecoderControl) -> bool
+    ensures { result ≡ taps_row (count_of nb_subfr) q c.now }
 {
     let signal = q.signal;
-    let taps = c.ltp_coef_q14;
-    let ok = !is_voiced(signal) | taps_fit(&taps, count_of(nb_subfr));
+    let ok = !is_voiced(signal) | taps_fit(&c.ltp_coef_q14, count_of(nb_subfr));
     !(within(0, 16384, c.ltp_scale_q14) & ok)
 }
 
-fn line_row(fs_khz: i32, lines: [i16; 16]) -> bool
-    ensures { result ≡ not (lines_fit (rate_of fs_khz) lines) }
+fn line_row(fs_khz: i32, lines: &[i16; 16]) -> bool
+    ensures { result ≡ not (lines_fit (rate_of fs_khz) lines.now) }
 {
-    !lines_fit(fs_khz, &lines)
+    !lines_fit(fs_khz, lines)
 }
 
 fn room_row(fs_khz: i32, nb_subfr: i32, lent: usize) -> bool
@@ -125,10 +122,9 @@ fn length_row(lent: usize, n: usize) -> bool
     (n == 0) | (n > 320) | (n > lent)
 }
 
-// Rows 1 to 3 with a coming shape. Where it isn't inlined it copies the state.
-#[inline(always)]
-fn coming_rows(s: SilkDecoderState, khz: i32, nb_subfr: i32) -> Result<(), Refusal>
-    ensures { result ≡ first_of (coming_rows khz nb_subfr s) }
+// Rows 1 to 3 with a coming shape.
+fn coming_rows(s: &SilkDecoderState, khz: i32, nb_subfr: i32) -> Result<(), Refusal>
+    ensures { result ≡ first_of (coming_rows khz nb_subfr s.now) }
 {
     refuse_if(rate_row(s), Refusal::Rate)?;
     refuse_if(!is_rate(khz), Refusal::Rate)?;
@@ -138,16 +134,16 @@ fn coming_rows(s: SilkDecoderState, khz: i32, nb_subfr: i32) -> Result<(), Refus
 }
 
 // Rows 1 to 3 at the shape that a state holds.
-fn state_rows(s: SilkDecoderState) -> Result<(), Refusal>
-    ensures { result ≡ first_of (state_rows s) }
+fn state_rows(s: &SilkDecoderState) -> Result<(), Refusal>
+    ensures { result ≡ first_of (state_rows s.now) }
 {
     coming_rows(s, s.fs_khz, s.nb_subfr)
 }
 
 // Rows 5 to 8.
 #[tactic(auto, unfolding(refusal::specs::First::first_of))]
-fn param_rows(fs_khz: i32, nb_subfr: i32, q: Params, c: SilkDecoderControl) -> Result<(), Refusal>
-    ensures { result ≡ first_of (param_rows (shape fs_khz nb_subfr) q c) }
+fn param_rows(fs_khz: i32, nb_subfr: i32, q: Params, c: &SilkDecoderControl) -> Result<(), Refusal>
+    ensures { result ≡ first_of (param_rows (shape fs_khz nb_subfr) q c.now) }
 {
     refuse_if(signal_row(q), Refusal::Signal)?;
     refuse_if(gain_row(nb_subfr, c), Refusal::Gain)?;
@@ -161,10 +157,10 @@ pub fn description(
     fs_khz: i32,
     nb_subfr: i32,
     q: Params,
-    c: SilkDecoderControl,
-    lines: [i16; 16],
+    c: &SilkDecoderControl,
+    lines: &[i16; 16],
 ) -> Result<(), Refusal>
-    ensures { result ≡ first_of (description_rows (shape fs_khz nb_subfr) q c lines) }
+    ensures { result ≡ first_of (description_rows (shape fs_khz nb_subfr) q c.now lines.now) }
 {
     param_rows(fs_khz, nb_subfr, q, c)?;
     refuse_if(line_row(fs_khz, lines), Refusal::Line)
@@ -180,8 +176,8 @@ fn room_rows(fs_khz: i32, nb_subfr: i32, pulses: usize, output: usize) -> Result
 }
 
 // Rows 4 and 11.
-fn loss_rows(s: SilkDecoderState, khz: i32, nb_subfr: i32, output: usize) -> Result<(), Refusal>
-    ensures { result ≡ first_of (loss_rows (shape khz nb_subfr) s output) }
+fn loss_rows(s: &SilkDecoderState, khz: i32, nb_subfr: i32, output: usize) -> Result<(), Refusal>
+    ensures { result ≡ first_of (loss_rows (shape khz nb_subfr) s.now output) }
 {
     refuse_if(run_full_row(s.loss_cnt), Refusal::RunFull)?;
     refuse_if(room_row(khz, nb_subfr, output), Refusal::Speaker)
@@ -189,16 +185,16 @@ fn loss_rows(s: SilkDecoderState, khz: i32, nb_subfr: i32, output: usize) -> Res
 
 // A whole received frame with its coming shape.
 pub fn received(
-    s: SilkDecoderState,
+    s: &SilkDecoderState,
     khz: i32,
     nb_subfr: i32,
     q: Params,
-    c: SilkDecoderControl,
-    lines: [i16; 16],
+    c: &SilkDecoderControl,
+    lines: &[i16; 16],
     pulses: usize,
     output: usize,
 ) -> Result<(), Refusal>
-    ensures { result ≡ first_of (received_rows khz nb_subfr s q c lines pulses output) }
+    ensures { result ≡ first_of (received_rows khz nb_subfr s.now q c.now lines.now pulses output) }
 {
     coming_rows(s, khz, nb_subfr)?;
     description(khz, nb_subfr, q, c, lines)?;
@@ -206,24 +202,24 @@ pub fn received(
 }
 
 // A whole lost frame with its coming shape.
-pub fn lost(s: SilkDecoderState, khz: i32, nb_subfr: i32, output: usize) -> Result<(), Refusal>
-    ensures { result ≡ first_of (lost_rows khz nb_subfr s output) }
+pub fn lost(s: &SilkDecoderState, khz: i32, nb_subfr: i32, output: usize) -> Result<(), Refusal>
+    ensures { result ≡ first_of (lost_rows khz nb_subfr s.now output) }
 {
     coming_rows(s, khz, nb_subfr)?;
     loss_rows(s, khz, nb_subfr, output)
 }
 
 pub fn frame(
-    s: SilkDecoderState,
+    s: &SilkDecoderState,
     khz: i32,
     nb_subfr: i32,
     f: Frame,
-    c: SilkDecoderControl,
-    lines: [i16; 16],
+    c: &SilkDecoderControl,
+    lines: &[i16; 16],
     pulses: usize,
     output: usize,
 ) -> Result<(), Refusal>
-    ensures { result ≡ first_of (frame_rows khz nb_subfr s f c lines pulses output) }
+    ensures { result ≡ first_of (frame_rows khz nb_subfr s.now f c.now lines.now pulses output) }
 {
     let Frame::Received(q) = f else {
         return lost(s, khz, nb_subfr, output);
@@ -232,42 +228,47 @@ pub fn frame(
 }
 
 pub fn core(
-    s: SilkDecoderState,
+    s: &SilkDecoderState,
     q: Params,
-    c: SilkDecoderControl,
+    c: &SilkDecoderControl,
     pulses: usize,
     output: usize,
 ) -> Result<(), Refusal>
-    ensures { result ≡ first_of (core_rows s q c pulses output) }
+    ensures { result ≡ first_of (core_rows s.now q c.now pulses output) }
 {
     state_rows(s)?;
     param_rows(s.fs_khz, s.nb_subfr, q, c)?;
     room_rows(s.fs_khz, s.nb_subfr, pulses, output)
 }
 
-pub fn plc_received(s: SilkDecoderState, q: Params, c: SilkDecoderControl) -> Result<(), Refusal>
-    ensures { result ≡ first_of (plc_received_rows s q c) }
+pub fn plc_received(s: &SilkDecoderState, q: Params, c: &SilkDecoderControl) -> Result<(), Refusal>
+    ensures { result ≡ first_of (plc_received_rows s.now q c.now) }
 {
     state_rows(s)?;
     param_rows(s.fs_khz, s.nb_subfr, q, c)
 }
 
-pub fn plc_lost(s: SilkDecoderState, output: usize) -> Result<(), Refusal>
-    ensures { result ≡ first_of (plc_lost_rows s output) }
+pub fn plc_lost(s: &SilkDecoderState, output: usize) -> Result<(), Refusal>
+    ensures { result ≡ first_of (plc_lost_rows s.now output) }
 {
     state_rows(s)?;
     loss_rows(s, s.fs_khz, s.nb_subfr, output)
 }
 
-pub fn glue(s: SilkDecoderState, lent: usize, n: usize) -> Result<(), Refusal>
-    ensures { result ≡ first_of (glue_rows s lent n) }
+pub fn glue(s: &SilkDecoderState, lent: usize, n: usize) -> Result<(), Refusal>
+    ensures { result ≡ first_of (glue_rows s.now lent n) }
 {
     state_rows(s)?;
     refuse_if(length_row(lent, n), Refusal::Length)
 }
 
-pub fn cng(s: SilkDecoderState, c: SilkDecoderControl, lent: usize, n: usize) -> Result<(), Refusal>
-    ensures { result ≡ first_of (cng_rows s c lent n) }
+pub fn cng(
+    s: &SilkDecoderState,
+    c: &SilkDecoderControl,
+    lent: usize,
+    n: usize,
+) -> Result<(), Refusal>
+    ensures { result ≡ first_of (cng_rows s.now c.now lent n) }
 {
     state_rows(s)?;
     refuse_if(

@@ -86,9 +86,9 @@ state_long words halves e =
     let b = neither (ltb words WORDS) (ltb halves HALVES) e in
     (ltb-false words WORDS b.0, ltb-false halves HALVES b.1)
 
-pub frame-long : (words halves frame : ℕ) → short_frame words halves frame ≡ false → (WORDS ≤ words) × (HALVES ≤ halves) × (FRAME ≤ frame)
+pub frame_long : (words halves frame : ℕ) → short_frame words halves frame ≡ false → (WORDS ≤ words) × (HALVES ≤ halves) × (FRAME ≤ frame)
 unfolding short_frame
-frame-long words halves frame e =
+frame_long words halves frame e =
     let b = neither (short_state words halves) (ltb frame FRAME) e in
     let l = state_long words halves b.0 in
     (l.0, l.1, ltb-false frame FRAME b.1)
@@ -97,5 +97,5 @@ pub call_long : (words halves frame coefs : ℕ) → short_call words halves fra
 unfolding short_call
 call_long words halves frame coefs e =
     let b = neither (short_frame words halves frame) (ltb coefs COEFS) e in
-    let l = frame-long words halves frame b.0 in
+    let l = frame_long words halves frame b.0 in
     (l.0, l.1, l.2, ltb-false coefs COEFS b.1)

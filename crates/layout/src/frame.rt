@@ -1,8 +1,6 @@
 // A frame in numbers: `frame` and `coefs`.
 // Inner: every function.
 ghost use Rattle.std.specs.Prelude.{◌≡◌, ◌≤◌, length};
-ghost use Rattle.std.specs.Int.{w8};
-ghost use Rattle.word.specs.Int.{wrap};
 ghost use Rattle.layout.specs.Frame.{FRAME, COEFS, short_frame, short_call, small, params_in, frame_in, rate_in, subframes_in, control_in, tapless, rows_in, lines_in, with_lags, with_taps};
 
 use crate::{part, short_state};
@@ -29,7 +27,7 @@ pub fn short_call(words: usize, halves: usize, frame: usize, coefs: usize) -> bo
     short_frame(words, halves, frame) || coefs < COEFS
 }
 
-// A number of 8 bits; one outside them counts as -1, which row 5 refuses.
+// A number of 8 bits; one outside them counts as -1, which row 5 refuses. Three places read a number so, and the definition has this name.
 #[tactic(auto, unfolding(crate::specs::Frame::small))]
 fn small(z: i32) -> i8
     ensures { result ≡ small z }
@@ -37,101 +35,106 @@ fn small(z: i32) -> i8
     i8::try_from(z).unwrap_or(-1)
 }
 
-fn low8(x: i32) -> i8
-    ensures { result ≡ wrap w8 x }
-{
-    ((x & 0xff) as u8).cast_signed()
+// A frame in numbers, to be read.
+#[derive(Clone, Copy)]
+pub struct FrameNumbers<'a> {
+    pub numbers: &'a [i32],
+    pub ghost long: { FRAME ≤ length numbers.now },
 }
 
-// The small numbers of a received frame.
-#[tactic(auto, unfolding(crate::specs::Frame::params_in))]
-pub fn params_in(frame: &[i32]) -> Params
-    requires { FRAME ≤ length frame.now }
-    ensures { result ≡ params_in frame.now }
-{
-    let signal = Signal::from(small(frame[3]));
-    Params {
-        signal,
-        quant_offset_type: small(frame[4]),
-        nlsf_interp_coef_q2: small(frame[5]),
-        seed: low8(frame[6]),
+impl FrameNumbers<'_> {
+    // The small numbers of a received frame.
+    #[tactic(auto, unfolding(crate::specs::Frame::params_in))]
+    pub fn params(self) -> Params
+        ensures { result ≡ params_in self.entry.numbers.now }
+    {
+        let signal = Signal::from(small(self.numbers[3]));
+        Params {
+            signal,
+            quant_offset_type: small(self.numbers[4]),
+            nlsf_interp_coef_q2: small(self.numbers[5]),
+            seed: ((self.numbers[6] & 0xff) as u8).cast_signed(),
+        }
+    }
+
+    // A frame, received or lost.
+    #[tactic(auto, unfolding(crate::specs::Frame::frame_in))]
+    pub fn frame(self) -> Frame
+        ensures { result ≡ frame_in self.entry.numbers.now }
+    {
+        if self.numbers[0] == 0 {
+            return Frame::Lost;
+        }
+        let q = self.params();
+        Frame::Received(q)
+    }
+
+    // The rate that comes with a frame.
+    #[tactic(auto, unfolding(crate::specs::Frame::rate_in))]
+    pub fn rate(self) -> i32
+        ensures { result ≡ rate_in self.entry.numbers.now }
+    {
+        self.numbers[1]
+    }
+
+    // The count of subframes that comes with it.
+    #[tactic(auto, unfolding(crate::specs::Frame::subframes_in))]
+    pub fn subframes(self) -> i32
+        ensures { result ≡ subframes_in self.entry.numbers.now }
+    {
+        self.numbers[2]
+    }
+
+    // The description; of coefs the taps alone are read.
+    #[tactic(auto, unfolding(crate::specs::Frame::control_in))]
+    pub fn control(self, coefs: &[i16]) -> SilkDecoderControl
+        requires { 20 ≤ length coefs.now }
+        ensures { result ≡ control_in self.entry.numbers.now coefs.now }
+    {
+        let pitch_l = part(self.numbers, 7);
+        let gains_q16 = part(self.numbers, 11);
+        let ltp_coef_q14 = part(coefs, 0);
+        SilkDecoderControl {
+            pitch_l,
+            gains_q16,
+            ltp_coef_q14,
+            ltp_scale_q14: self.numbers[15],
+        }
+    }
+
+    // A description without taps, of which concealment and noise read none.
+    #[tactic(auto, unfolding(crate::specs::Frame::tapless))]
+    pub fn tapless(self) -> SilkDecoderControl
+        ensures { result ≡ tapless self.entry.numbers.now }
+    {
+        let taps = [0i16; 20];
+        self.control(&taps)
     }
 }
 
-// A frame, received or lost.
-#[tactic(auto, unfolding(crate::specs::Frame::frame_in))]
-pub fn frame_in(frame: &[i32]) -> Frame
-    requires { FRAME ≤ length frame.now }
-    ensures { result ≡ frame_in frame.now }
-{
-    if frame[0] == 0 {
-        return Frame::Lost;
+// A frame's coefficients, to be read.
+#[derive(Clone, Copy)]
+pub struct CoefNumbers<'a> {
+    pub coefs: &'a [i16],
+    pub ghost long: { COEFS ≤ length coefs.now },
+}
+
+impl CoefNumbers<'_> {
+    // The two coefficient rows.
+    #[tactic(auto, unfolding(crate::specs::Frame::rows_in))]
+    pub fn rows(self) -> [[i16; 16]; 2]
+        ensures { result ≡ rows_in self.entry.coefs.now }
+    {
+        let first = part(self.coefs, 20);
+        let second = part(self.coefs, 36);
+        [first, second]
     }
-    let q = params_in(frame);
-    Frame::Received(q)
-}
 
-// The rate that comes with a frame.
-#[tactic(auto, unfolding(crate::specs::Frame::rate_in))]
-pub fn rate_in(frame: &[i32]) -> i32
-    requires { FRAME ≤ length frame.now }
-    ensures { result ≡ rate_in frame.now }
-{
-    frame[1]
-}
-
-// The count of subframes that comes with it.
-#[tactic(auto, unfolding(crate::specs::Frame::subframes_in))]
-pub fn subframes_in(frame: &[i32]) -> i32
-    requires { FRAME ≤ length frame.now }
-    ensures { result ≡ subframes_in frame.now }
-{
-    frame[2]
-}
-
-// The description; of coefs the taps alone are read.
-#[tactic(auto, unfolding(crate::specs::Frame::control_in))]
-pub fn control_in(frame: &[i32], coefs: &[i16]) -> SilkDecoderControl
-    requires { (FRAME ≤ length frame.now) × (20 ≤ length coefs.now) }
-    ensures { result ≡ control_in frame.now coefs.now }
-{
-    let pitch_l = part(frame, 7);
-    let gains_q16 = part(frame, 11);
-    let ltp_coef_q14 = part(coefs, 0);
-    SilkDecoderControl {
-        pitch_l,
-        gains_q16,
-        ltp_coef_q14,
-        ltp_scale_q14: frame[15],
+    pub fn lines(self) -> [i16; 16]
+        ensures { result ≡ lines_in self.entry.coefs.now }
+    {
+        part(self.coefs, 52)
     }
-}
-
-// A description without taps, of which concealment and noise read none.
-#[tactic(auto, unfolding(crate::specs::Frame::tapless))]
-pub fn tapless(frame: &[i32]) -> SilkDecoderControl
-    requires { FRAME ≤ length frame.now }
-    ensures { result ≡ tapless frame.now }
-{
-    let taps = [0i16; 20];
-    control_in(frame, &taps)
-}
-
-// The two coefficient rows.
-#[tactic(auto, unfolding(crate::specs::Frame::rows_in))]
-pub fn rows_in(coefs: &[i16]) -> [[i16; 16]; 2]
-    requires { COEFS ≤ length coefs.now }
-    ensures { result ≡ rows_in coefs.now }
-{
-    let first = part(coefs, 20);
-    let second = part(coefs, 36);
-    [first, second]
-}
-
-pub fn lines_in(coefs: &[i16]) -> [i16; 16]
-    requires { COEFS ≤ length coefs.now }
-    ensures { result ≡ lines_in coefs.now }
-{
-    part(coefs, 52)
 }
 
 // The lags of a new description stored.
@@ -143,11 +146,39 @@ pub fn put_lags(c: &SilkDecoderControl, frame: &mut [i32])
     copy_at(frame, 7, &c.pitch_l);
 }
 
-// Its taps.
-#[tactic(auto, unfolding(crate::specs::Frame::with_taps))]
-pub fn put_taps(c: &SilkDecoderControl, coefs: &mut [i16])
-    requires { COEFS ≤ length coefs.old }
-    ensures { coefs.new ≡ with_taps coefs.old c.now }
-{
-    copy_at(coefs, 0, &c.ltp_coef_q14);
+// A frame's numbers and coefficients, to be read and written.
+#[derive(Drop)]
+pub struct FrameSlices<'a> {
+    pub numbers: &'a mut [i32],
+    pub coefs: &'a mut [i16],
+    pub ghost numbers_long: { FRAME ≤ length numbers.now },
+    pub ghost coefs_long: { COEFS ≤ length coefs.now },
+}
+
+impl FrameSlices<'_> {
+    ghost use Rattle.layout.specs.Lent.{SameFrame};
+
+    pub fn numbers(&self) -> FrameNumbers<'_>
+        ensures { result.numbers.now ≡ self.now.numbers.now }
+    {
+        FrameNumbers {
+            numbers: self.numbers,
+        }
+    }
+
+    pub fn coefs(&self) -> CoefNumbers<'_>
+        ensures { result.coefs.now ≡ self.now.coefs.now }
+    {
+        CoefNumbers { coefs: self.coefs }
+    }
+
+    // The lags and the taps of a new description stored.
+    #[tactic(auto, unfolding(crate::specs::Frame::with_taps))]
+    pub fn put(&mut self, c: &SilkDecoderControl)
+        ensures stored { (self.new.numbers.now ≡ with_lags self.old.numbers.now c.now) × (self.new.coefs.now ≡ with_taps self.old.coefs.now c.now) }
+        ensures same_reference { SameFrame self.old self.new }
+    {
+        put_lags(c, self.numbers);
+        copy_at(self.coefs, 0, &c.ltp_coef_q14);
+    }
 }

@@ -13,17 +13,16 @@ use lib.Seq.{take_at, drop_at, take-add, drop-drop, get_or-drop, length-take-le,
 use mir.Syntax.{Width}
 use mir.Val.{SFits}
 use native.Mathlib.Numerals.{add-one}
-use Rattle.std.specs.Prelude.{map}
-use Rattle.std.specs.List.{flat_map, range_with_len}
+use Rattle.std.specs.List.{flat_map}
 use Rattle.std.proofs.lemmas.List.FromFn.{fill_by_all}
 use Rattle.std.proofs.lemmas.List.{take_more}
 use Rattle.std.proofs.lemmas.List.Concat.{flat_map-append}
 use Rattle.word.specs.Int.{wrap}
 use Rattle.word.specs.Tabulate.{tabulate}
 use Rattle.word.proofs.Lists.{get_or-tabulate, length-tabulate, tabulate_cong, tabulate-get_or}
-use Rattle.le.specs.Bytes.{Bytes, bytes_of, bytes_in, number_of, unsigned_at, signed_at, words_at, packed, with_bytes}
+use Rattle.le.specs.Bytes.{Bytes, bytes_of, bytes_in, number_of, unsigned_at, signed_at, words_by, words_at, packed, packed_by, with_bytes}
 use Rattle.le.proofs.Numbers.{length-bytes_of, wrap_of_bytes, bytes_of-wrap}
-use Rattle.le.proofs.Places.{with-more, with_none}
+use Rattle.le.proofs.Places.{with-more}
 
 -- parts of bytes are bytes
 pub drop-bytes : (at : ℕ) (b : List ℕ) → Bytes b → Bytes (drop at b)
@@ -129,7 +128,7 @@ word_room k i n at m l h =
     omega arith
 
 -- such words of a width, all of them
-packed_front : (w : Width) (xs : List ℤ) (n : ℕ) → n ≤ length xs → flat_map (bytes_of (bytes_in w)) (take n xs) ≡ packed w xs n
+packed_front : (w : Width) (xs : List ℤ) (n : ℕ) → n ≤ length xs → packed_by (bytes_of (bytes_in w)) (take n xs) ≡ packed w xs n
 unfolding packed
 packed_front w xs zero h = refl
 packed_front w xs (suc n) h =
@@ -138,12 +137,12 @@ packed_front w xs (suc n) h =
     ap (λ (m : ℕ). flat_map f (take m xs)) (sym (add-one n)) ∙ ap (flat_map f) (take_more xs n (pos 0) (omega arith)) ∙ flat_map-append f (take n xs) (x ∷ [])
     ∙ (λ i. packed_front w xs n (omega arith) i ++ append-nil (f x) i)
 
-pub packed_all : (w : Width) (xs : List ℤ) (n : ℕ) → length xs ≡ n → flat_map (bytes_of (bytes_in w)) xs ≡ packed w xs n
+pub packed_all : (w : Width) (xs : List ℤ) (n : ℕ) → length xs ≡ n → packed_by (bytes_of (bytes_in w)) xs ≡ packed w xs n
 packed_all w xs n e =
-    ap (flat_map (bytes_of (bytes_in w))) (sym (take_all n xs (omega (arith, e)))) ∙ packed_front w xs n (omega (arith, e))
+    ap (packed_by (bytes_of (bytes_in w))) (sym (take_all n xs (omega (arith, e)))) ∙ packed_front w xs n (omega (arith, e))
 
 -- such words read one behind the other
-pub words_are : (w : Width) (b : List ℕ) (at n : ℕ) → map (λ i. signed_at w b (at + bytes_in w * i)) (range_with_len 0 n) ≡ words_at w b at n
+pub words_are : (w : Width) (b : List ℕ) (at n : ℕ) → words_by (signed_at w) (bytes_in w) b at n ≡ words_at w b at n
 words_are w b at n =
     let f : ℕ → ℤ = λ i. signed_at w b (at + bytes_in w * i) in
     sym (fill_by_all f (tabulate n f) n (pos 0) (length-tabulate n f) (λ i h. get_or-tabulate n f i h))

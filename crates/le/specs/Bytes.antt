@@ -1,5 +1,6 @@
 -- Numbers as bytes, the lowest byte first, and signed ones in two's complement.
-use Rattle.std.specs.Prelude.{ℕ, zero, suc, ◌+◌, ◌*◌, ◌/◌, ◌<◌, Bool, true, ◌&&◌, List, [], ◌∷◌, ◌++◌, eqb, ℤ, pos, get_or, take, drop, length}
+use Rattle.std.specs.Prelude.{ℕ, zero, suc, ◌+◌, ◌*◌, ◌/◌, ◌<◌, Bool, true, ◌&&◌, List, [], ◌∷◌, ◌++◌, eqb, ℤ, pos, get_or, take, drop, length, map}
+use Rattle.std.specs.List.{flat_map, range_with_len}
 use Rattle.std.specs.Int.{Width}
 use mir.Val.{bits}
 use Rattle.word.specs.Int.{floor_div, mod_ℤ, wrap}
@@ -31,7 +32,15 @@ bytes_in w = bits w / 8
 unfoldable pub signed_at : Width → List ℕ → ℕ → ℤ
 signed_at w b at = wrap w (pos (unsigned_at (bytes_in w) b at))
 
--- n such words
+-- n words, each of `size` bytes, from place `at` on, by what stands at a place
+abbrev pub words_by : {A : Type 0} → (List ℕ → ℕ → A) → ℕ → List ℕ → ℕ → ℕ → List A
+words_by word_at size b at n = map (λ i. word_at b (at + size * i)) (range_with_len 0 n)
+
+-- all words as bytes, one behind the other, by the bytes of each
+abbrev pub packed_by : {A : Type 0} → (A → List ℕ) → List A → List ℕ
+packed_by bytes xs = flat_map bytes xs
+
+-- n words of a width
 abbrev pub words_at : Width → List ℕ → ℕ → ℕ → List ℤ
 words_at w b at n = tabulate n (λ i. signed_at w b (at + bytes_in w * i))
 

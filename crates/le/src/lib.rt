@@ -2,18 +2,10 @@
 // Inner: every function.
 #![tactic(auto)]
 
-ghost use Rattle.std.specs.Prelude.{◌≡◌, ◌+◌, ◌*◌, ◌≤◌, ◌<◌, ℕ, List, pos, length, drop, replicate, map, refl};
-ghost use Rattle.std.specs.List.{flat_map, range_with_len};
+ghost use Rattle.std.specs.Prelude.{◌≡◌, ◌+◌, ◌*◌, ◌≤◌, ◌<◌, ℕ, List, pos, length, drop, replicate, refl};
 ghost use Rattle.std.specs.Int.{w8, w16, w32};
 ghost use Rattle.word.specs.Int.{mod_ℤ};
-ghost use Rattle.le.specs.Bytes.{bytes_of, unsigned_at, signed_at, with_bytes, same};
-
-// The same number, as a signed one.
-pub fn signed_byte(x: u8) -> i32
-    ensures { result ≡ pos x }
-{
-    x as i32
-}
+ghost use Rattle.le.specs.Bytes.{bytes_of, unsigned_at, signed_at, words_by, packed_by, with_bytes, same};
 
 // A number of so many bytes.
 pub trait Word: Copy + Default {
@@ -141,7 +133,7 @@ impl Word for i32 {
 #[tactic(auto, using(crate::proofs::Packing::word_room))]
 pub fn words_at<T: Word, const N: usize>(b: &[u8], at: usize) -> [T; N]
     requires { at + T.SIZE * N ≤ length b.now }
-    ensures { result ≡ map (λ i. T.word_at b.now (at + T.SIZE * i)) (range_with_len 0 N) }
+    ensures { result ≡ words_by T.word_at T.SIZE b.now at N }
 {
     let mut words = [T::default(); N];
     for (i, x) in words.iter_mut().enumerate() {
@@ -150,6 +142,7 @@ pub fn words_at<T: Word, const N: usize>(b: &[u8], at: usize) -> [T; N]
     words
 }
 
+// `as u8` takes only a number that fits, so that the mask and its proof stand here once.
 pub fn low_byte(x: i32) -> u8
     ensures { result ≡ mod_ℤ x 256 }
 {
@@ -178,7 +171,7 @@ pub fn put_zeros(to: &mut [u8], at: usize, n: usize)
 #[tactic(auto, using(crate::proofs::Packing::word_room))]
 pub fn put_words<T: Word>(to: &mut [u8], at: usize, numbers: &[T])
     requires { at + T.SIZE * length numbers.now ≤ length to.old }
-    ensures { to.new ≡ with_bytes to.old at (flat_map T.bytes numbers.now) }
+    ensures { to.new ≡ with_bytes to.old at (packed_by T.bytes numbers.now) }
 {
     for (i, x) in numbers.iter().enumerate() {
         x.put(to, at + T::SIZE * i);

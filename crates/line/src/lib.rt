@@ -14,6 +14,7 @@ pub struct Line {
     pub row: [i32; 64],
     pub count: usize,
     value: Option<i32>,
+    // A truth value, since only a minus sign is a sign here: a type of signs would be tested for it, and say no more.
     negative: bool,
 }
 

@@ -2,8 +2,7 @@
 // Inner: every function.
 #![tactic(auto)]
 
-ghost use Rattle.std.specs.Prelude.{◌≡◌, cond, suc, ◌+◌, ◌≤◌, ◌<◌, length, take};
-ghost use Rattle.std.proofs.Math.Seq.{paste};
+ghost use Rattle.std.specs.Prelude.{◌≡◌, cond, suc, ◌+◌, ◌<◌};
 ghost use Rattle.generator.specs.Draws.{unsigned};
 ghost use Rattle.listener.specs.Link.{leaving, turned};
 ghost use Rattle.listener.specs.Heard.{silent, counts_of, rows_of};
@@ -80,7 +79,7 @@ pub fn followed(seed: i32, squelch: u32, k: Link, frames: u32) -> Counts
     let mut received: u32 = 0;
     let mut concealed: u32 = 0;
     let mut squelched: u32 = 0;
-    for i in 0..frames {
+    for _ in 0..frames {
         let quiet = silent(squelch, losses);
         received = counted(received, good);
         concealed = counted(concealed, !good && !quiet);
@@ -104,22 +103,4 @@ pub fn sixteen(seeds: [i32; 16], squelch: u32, k: Link, frames: u32) -> [Counts;
             ensures { result ≡ counts_of squelch k x frames }
         { followed(x, squelch, k, frames) },
     )
-}
-
-// Sixteen seeds that are lent.
-pub fn seeds_of(lent: &[i32]) -> [i32; 16]
-    requires { 16 ≤ length lent.now }
-    ensures { result ≡ take 16 lent.now }
-{
-    let mut seeds = [0; 16];
-    seeds.copy_from_slice(&lent[..16]);
-    seeds
-}
-
-// Sixteen counts put into a slice.
-pub fn put_counts(to: &mut [u32], at: usize, counts: [u32; 16])
-    requires { at + 16 ≤ length to.old }
-    ensures { to.new ≡ paste to.old at counts 16 }
-{
-    to[at..at + 16].copy_from_slice(&counts);
 }

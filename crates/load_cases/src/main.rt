@@ -9,6 +9,31 @@ use post_load::{post_load_frame, post_load_leap, post_load_undoing};
 use std::io;
 use word::bits32;
 
+// What a line asks for, by its first number.
+#[derive(Clone, Copy)]
+enum Asked {
+    Leap,
+    Undoing,
+    Frame,
+}
+
+// A number that asks for nothing.
+#[derive(Clone, Copy)]
+struct Unknown;
+
+impl TryFrom<i32> for Asked {
+    type Error = Unknown;
+
+    fn try_from(n: i32) -> Result<Asked, Unknown> {
+        match n {
+            1 => Ok(Asked::Leap),
+            2 => Ok(Asked::Undoing),
+            3 => Ok(Asked::Frame),
+            _ => Err(Unknown),
+        }
+    }
+}
+
 // A count of draws, of which a line has the high and the low 32 bits.
 fn draws(high: i32, low: i32) -> u64 {
     4294967296 * (bits32(high) as u64) + (bits32(low) as u64)
@@ -55,17 +80,17 @@ fn frame(rt: &impl Print, seed: i32, rate: i32, subframes: i32, number: u32) -> 
     println!(rt; "{answer} {drawn} {left}")
 }
 
-// A line that ends, by its first number; one with no number is passed over.
+// A line that ends; one with no number is passed over.
 fn answered(rt: &impl Print, l: Line) -> io::Result<()> {
     let row = l.row;
     if l.count == 0 {
         return Ok(());
     }
-    match row[0] {
-        1 => rt.println(post_load_leap(row[1], draws(row[2], row[3]))),
-        2 => rt.println(post_load_undoing(draws(row[1], row[2]))),
-        3 => frame(rt, row[1], row[2], row[3], bits32(row[4])),
-        _ => println!(rt; "no case"),
+    match Asked::try_from(row[0]) {
+        Ok(Asked::Leap) => rt.println(post_load_leap(row[1], draws(row[2], row[3]))),
+        Ok(Asked::Undoing) => rt.println(post_load_undoing(draws(row[1], row[2]))),
+        Ok(Asked::Frame) => frame(rt, row[1], row[2], row[3], bits32(row[4])),
+        Err(Unknown) => println!(rt; "no case"),
     }
 }
 

@@ -5,3 +5,4 @@ pub mod Normal
 pub mod Ranges
 pub mod Scalars
 pub mod Inverse
+pub mod Kept

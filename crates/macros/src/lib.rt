@@ -15,84 +15,98 @@ use word::{
     shr32, shr64, smull, sub32, sum32, sum64, wide, wide16,
 };
 
+#[tactic(auto, using(crate::proofs::Kept::words), unfolding(crate::specs::Fixed::smulww))]
 pub fn silk_smulww(a: i32, b: i32) -> i32
     ensures { result ≡ smulww a b }
 {
     low32(shr64(smull(a, b), 16))
 }
 
+#[tactic(auto, using(crate::proofs::Kept::words), unfolding(crate::specs::Fixed::smulwb))]
 pub fn silk_smulwb(a: i32, b: i32) -> i32
     ensures { result ≡ smulwb a b }
 {
     low32(shr64(smull(a, wide16(low16(b))), 16))
 }
 
+#[tactic(auto, using(crate::proofs::Kept::words), unfolding(crate::specs::Fixed::smulbb))]
 pub fn silk_smulbb(a: i32, b: i32) -> i32
     ensures { result ≡ smulbb a b }
 {
     mul16(low16(a), low16(b))
 }
 
+#[tactic(auto, using(crate::proofs::Kept::words), unfolding(crate::specs::Fixed::smultt))]
 pub fn silk_smultt(a: i32, b: i32) -> i32
     ensures { result ≡ smultt a b }
 {
     mul32(shr32(a, 16), shr32(b, 16))
 }
 
+#[tactic(auto, using(crate::proofs::Kept::words))]
 pub fn silk_smull(a: i32, b: i32) -> i64
     ensures { result ≡ a *ℤ b }
 {
     smull(a, b)
 }
 
+#[tactic(auto, using(crate::proofs::Kept::words), unfolding(crate::specs::Fixed::smmul))]
 pub fn silk_smmul(a: i32, b: i32) -> i32
     ensures { result ≡ smmul a b }
 {
     low32(shr64(smull(a, b), 32))
 }
 
+#[tactic(auto, using(crate::proofs::Kept::words), unfolding(crate::specs::Fixed::smlaww))]
 pub fn silk_smlaww(a: i32, b: i32, c: i32) -> i32
     ensures { result ≡ smlaww a b c }
 {
     add32(a, silk_smulww(b, c))
 }
 
+#[tactic(auto, using(crate::proofs::Kept::words), unfolding(crate::specs::Fixed::smlawb))]
 pub fn silk_smlawb(a: i32, b: i32, c: i32) -> i32
     ensures { result ≡ smlawb a b c }
 {
     add32(a, silk_smulwb(b, c))
 }
 
+#[tactic(auto, using(crate::proofs::Kept::words), unfolding(crate::specs::Fixed::add_lshift32))]
 pub fn silk_add_lshift32(a: i32, b: i32, shift: i32) -> i32
     ensures { result ≡ add_lshift32 a b shift }
 {
     add32(a, shl32(b, shift))
 }
 
+#[tactic(auto, using(crate::proofs::Kept::words), unfolding(crate::specs::Fixed::lshift_sat32))]
 pub fn silk_lshift_sat32(a: i32, shift: i32) -> i32
     ensures { result ≡ lshift_sat32 a shift }
 {
     sat32(shl64(wide(a), shift))
 }
 
+#[tactic(auto, using(crate::proofs::Kept::words))]
 pub fn silk_add_sat32(a: i32, b: i32) -> i32
     ensures { result ≡ sat32 (a +ℤ b) }
 {
     sat32(sum64(a, b))
 }
 
+#[tactic(auto, using(crate::proofs::Kept::words))]
 pub fn silk_add_sat16(a: i16, b: i16) -> i16
     ensures { result ≡ sat16 (a +ℤ b) }
 {
     sat16(sum32(a, b))
 }
 
+#[tactic(auto, using(crate::proofs::Kept::words))]
 pub fn silk_min_32(a: i32, b: i32) -> i32
     ensures { result ≡ min_ℤ a b }
 {
     word::min32(a, b)
 }
 
+#[tactic(auto, using(crate::proofs::Kept::words))]
 pub fn silk_max_32(a: i32, b: i32) -> i32
     ensures { result ≡ max_ℤ a b }
 {
@@ -106,12 +120,14 @@ pub fn silk_rand(seed: i32) -> i32
 }
 
 // The sum with half of 2 ^ s, divided by 2 ^ s.
+#[tactic(auto, using(crate::proofs::Kept::words))]
 fn half_up(a: i32, s: i32) -> i32
     ensures { result ≡ wrap32 (floor_div (a +ℤ wrap32 (pos 1 *ℤ pos (2 ^ mod_ℤ (wrap32 (s -ℤ pos 1)) 32))) (2 ^ mod_ℤ s 64)) }
 {
     low32(shr64(sum64(a, shl32(1, sub32(s, 1))), s))
 }
 
+#[tactic(auto, using(crate::proofs::Kept::shifts, crate::proofs::Rounding::round_is), unfolding(crate::specs::Fixed::rshift_round))]
 pub fn silk_rshift_round(a: i32, shift: i32) -> i32
     ensures { result ≡ rshift_round a shift }
 {
@@ -124,6 +140,7 @@ pub fn silk_rshift_round(a: i32, shift: i32) -> i32
     half_up(a, shift)
 }
 
+#[tactic(auto, using(crate::proofs::Kept::shifts, crate::proofs::Rounding::round64_is), unfolding(crate::specs::Fixed::rshift_round64))]
 pub fn silk_rshift_round64(a: i64, shift: i32) -> i64
     ensures { result ≡ rshift_round64 a shift }
 {
@@ -133,6 +150,7 @@ pub fn silk_rshift_round64(a: i64, shift: i32) -> i64
     shr64(a, shift) + low_bit(shr64(a, sub32(shift, 1)))
 }
 
+#[tactic(auto, using(crate::proofs::Kept::words), unfolding(crate::specs::Fixed::clz32))]
 pub fn silk_clz32(a: i32) -> i32
     ensures { result ≡ pos (clz32 a) }
 {
@@ -153,6 +171,7 @@ fn frac_q7(x: i32) -> i32
     (w / 16777216 % 128) as i32
 }
 
+#[tactic(auto, using(crate::proofs::Kept::words), unfolding(crate::specs::Fixed::clz_frac))]
 pub fn silk_clz_frac(input: i32) -> ClzFrac
     ensures { result ≡ clz_frac input }
 {
@@ -173,6 +192,7 @@ fn sqrt_start(lz: i32) -> i32
     }
 }
 
+#[tactic(auto, using(crate::proofs::Kept::words), unfolding(crate::specs::Fixed::sqrt_approx))]
 pub fn silk_sqrt_approx(x: i32) -> i32
     ensures { result ≡ sqrt_approx x }
 {
@@ -185,6 +205,7 @@ pub fn silk_sqrt_approx(x: i32) -> i32
 }
 
 // The divisor is not 0 and the quotient fits: the Rust stops at 0 and at the least number by -1.
+#[tactic(auto, using(crate::proofs::Kept::words))]
 pub fn silk_div32(a: i32, b: i32) -> i32
     requires { (b ≡ pos 0 → ⊥) × SFits w32 (quot_z a b) }
     ensures { result ≡ quot_z a b }
@@ -192,12 +213,14 @@ pub fn silk_div32(a: i32, b: i32) -> i32
     a / b
 }
 
+#[tactic(auto, using(crate::proofs::Kept::heads), unfolding(crate::specs::Quotient::headroom))]
 fn head_room(b: i32) -> i32
     ensures { result ≡ headroom b }
 {
     sub32(silk_clz32(abs32(b)), 1)
 }
 
+#[tactic(auto, using(crate::proofs::Kept::shifts), unfolding(crate::specs::Quotient::shift_up))]
 fn shift_up(b: i32, h: i32) -> i32
     ensures { result ≡ shift_up b h }
 {
@@ -208,6 +231,7 @@ fn shift_up(b: i32, h: i32) -> i32
     }
 }
 
+#[tactic(auto, using(crate::proofs::Kept::shifts), unfolding(crate::specs::Quotient::shift_down, crate::specs::Fixed::lshift_sat32))]
 fn shift_down(r: i32, s: i32) -> i32
     ensures { result ≡ shift_down r s }
 {
@@ -220,12 +244,14 @@ fn shift_down(r: i32, s: i32) -> i32
     }
 }
 
+#[tactic(auto, using(crate::proofs::Kept::words), unfolding(crate::specs::Quotient::normal))]
 fn normalised(b: i32) -> i32
     ensures { result ≡ normal b }
 {
     shift_up(b, head_room(b))
 }
 
+#[tactic(auto, using(crate::proofs::Kept::words), unfolding(crate::specs::Quotient::first_inverse))]
 fn first_inverse(n: i32) -> i32
     requires { floor_div n (2 ^ 16) ≡ pos 0 → ⊥ }
     ensures { result ≡ first_inverse n }
@@ -233,6 +259,7 @@ fn first_inverse(n: i32) -> i32
     silk_div32(536870911, shr32(n, 16))
 }
 
+#[tactic(auto, using(crate::proofs::Kept::words), unfolding(crate::specs::Quotient::second_inverse))]
 fn second_inverse(n: i32, i: i32) -> i32
     ensures { result ≡ second_inverse n i }
 {
@@ -243,6 +270,7 @@ fn second_inverse(n: i32, i: i32) -> i32
     )
 }
 
+#[tactic(auto, using(crate::proofs::Kept::words, crate::proofs::Normal::normal_big), unfolding(crate::specs::Quotient::inverse32_varq))]
 pub fn silk_inverse32_varq(b32: i32, qres: i32) -> i32
     ensures { result ≡ inverse32_varq b32 qres }
 {
@@ -256,6 +284,7 @@ pub fn silk_inverse32_varq(b32: i32, qres: i32) -> i32
     )
 }
 
+#[tactic(auto, using(crate::proofs::Kept::words), unfolding(crate::specs::Quotient::normal_quotient))]
 fn normal_quotient(m: i32, n: i32, i: i32) -> i32
     ensures { result ≡ normal_quotient m n i }
 {
@@ -264,6 +293,7 @@ fn normal_quotient(m: i32, n: i32, i: i32) -> i32
 }
 
 // The divisor is not 0: there the Rust stops.
+#[tactic(auto, using(crate::proofs::Kept::words, crate::proofs::Normal::normal_big), unfolding(crate::specs::Quotient::div32_varq))]
 pub fn silk_div32_varq(a32: i32, b32: i32, qres: i32) -> i32
     requires { b32 ≡ pos 0 → ⊥ }
     ensures { result ≡ div32_varq a32 b32 qres }

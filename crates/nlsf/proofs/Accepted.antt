@@ -11,10 +11,18 @@ use lib.IntN.{ℤ}
 use lib.ListN.{length}
 use Rattle.refusal.specs.Refusals.{code_of}
 use Rattle.refusal.proofs.Clear.{clear}
+use Rattle.shape.specs.Order.{size}
+use Rattle.shape.specs.declared.Order.TheVariants.{Ten, Sixteen}
+use Rattle.shape.specs.declared.Order.{Order}
 use Rattle.edition.specs.Edition.{is_edition}
 use Rattle.nlsf.specs.Lines.{negative_line}
 use Rattle.nlsf.specs.Filter.{order_refused, nlsf2a_refusal}
 use Rattle.word.proofs.Rows.{neither}
+
+-- of an order, row 13 is about the two lengths alone
+pub lengths_refused : (n m : ℕ) (o : Order) → order_refused n m (size o) ≡ (ltb n (size o) || ltb m (size o))
+lengths_refused n m Ten = refl
+lengths_refused n m Sixteen = refl
 
 one_of : (d : ℕ) → (not (eqb d 10) && not (eqb d 16)) ≡ false → (d ≡ 10) ⊎ (d ≡ 16)
 one_of d = go (eqb d 10) (eqb d 16) refl refl

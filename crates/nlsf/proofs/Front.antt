@@ -1,13 +1,12 @@
 -- The filter from lines reads the first order lines alone.
-use Prim.Native.Nat.{ℕ, zero, suc, ◌-◌, ◌/◌, ◌<◌}
+use Prim.Native.Nat.{ℕ, zero, suc, ◌-◌, ◌<◌}
 use mathlib.Core.Path.{◌≡◌, refl, sym, ap, ◌∙◌}
 use mathlib.Core.List.{List}
 use native.Mathlib.Omega.{arith}
 use lib.IntN.{ℤ, pos, nat_abs}
 use lib.ListN.{get_or, take, set}
 use lib.Seq.{get_or-take}
-use Rattle.word.specs.Tabulate.{tabulate}
-use Rattle.nlsf.specs.Lines.{ordering, lsf_cosine, cosines, poly, lpc_coefficient, lpc_coefficients}
+use Rattle.nlsf.specs.Lines.{ordering, lsf_cosine, cosines, coefficients_of, lpc_coefficients}
 use Rattle.nlsf.specs.Fit.{lpc_fit}
 use Rattle.nlsf.specs.Filter.{stabilised, nlsf2a}
 
@@ -21,4 +20,4 @@ pub same_filter : (e : ℤ) (v w : List ℤ) (d : ℕ) → take d v ≡ take d w
 unfolding nlsf2a lpc_coefficients
 same_filter e v w d h =
     let c = cosines-front v w d d (λ k l. sym (get_or-take d v k (pos 0) l) ∙ ap (λ (xs : List ℤ). get_or xs k (pos 0)) h ∙ get_or-take d w k (pos 0) l) in
-    ap (λ (c : List ℤ). (stabilised e 16 0 (lpc_fit 10 (tabulate d (lpc_coefficient (poly c 0 (d / 2 - 1)) (poly c 1 (d / 2 - 1)) d)))).q12) c
+    ap (λ (c : List ℤ). (stabilised e 16 0 (lpc_fit 10 (coefficients_of c d))).q12) c

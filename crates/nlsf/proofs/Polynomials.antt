@@ -15,7 +15,7 @@ use Rattle.word.specs.Int.{wrap32}
 use Rattle.word.specs.Tabulate.{tabulate}
 use Rattle.word.proofs.Lists.{grow, length_snoc, tabulate_cong, length-tabulate}
 use Rattle.nlsf.proofs.Parts.{front_at}
-use Rattle.nlsf.specs.Lines.{poly_term, mirrored, times_factor, poly, even_term, odd_term, lpc_coefficient, lpc_coefficients}
+use Rattle.nlsf.specs.Lines.{poly_term, mirrored, times_factor, poly, even_term, odd_term, lpc_coefficient, coefficients_of, lpc_coefficients}
 
 -- coefficient n from 2 on
 pub term_at : (f : ℤ) (p : List ℤ) (n : ℕ) → 2 ≤ n → poly_term f (get_or p n (pos 0)) (get_or p (n - 2) (pos 0)) (get_or p (n - 1) (pos 0)) ≡ times_factor f p n
@@ -85,5 +85,5 @@ order_even (inl e) = rw e (refl, omega arith, omega arith)
 order_even (inr e) = rw e (refl, omega arith, omega arith)
 
 pub length-coefficients : (lines : List ℤ) (d : ℕ) → length (lpc_coefficients lines d) ≡ d
-unfolding lpc_coefficients
+unfolding lpc_coefficients coefficients_of
 length-coefficients lines d = length-tabulate d _

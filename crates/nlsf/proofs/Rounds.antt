@@ -1,14 +1,21 @@
 -- The rounds that fit and stabilise coefficients.
 use Prim.Native.Nat.{ℕ, zero, suc, min, ◌+◌, ◌-◌, ◌<◌, ◌≤◌}
-use mathlib.Core.Path.{◌≡◌, refl}
+use Prim.Native.Nat.{◌^◌}
+use mathlib.Core.Path.{◌≡◌, refl, ap}
 use mathlib.Core.Bool.{Bool, true, false, cond}
-use mathlib.Core.List.{List}
+use mathlib.Core.List.{List, [], ◌∷◌}
 use native.Mathlib.Numerals.{add-one}
 use native.Mathlib.Omega.{arith}
-use lib.IntN.{ℤ, pos, nat_abs}
+use lib.IntN.{ℤ, pos, nat_abs, ◌+ℤ◌, ◌*ℤ◌}
 use lib.ListN.{length, get_or}
 use lib.Signed.{lt_z}
-use Rattle.word.specs.Int.{wrap32, eq_ℤ}
+use mir.Syntax.{w16}
+use mir.Val.{SFits}
+use Rattle.word.specs.Int.{wrap16, wrap32, sat16, floor_div, eq_ℤ}
+use Rattle.word.proofs.Order.{sat16-fits}
+use Rattle.word.proofs.Parts.{eq_parts, div_parts, add_parts, mul-parts}
+use Rattle.word.proofs.Words.{wrap_id}
+use Rattle.macros.proofs.Rounding.{round_at}
 use Rattle.word.proofs.Lists.{length-tabulate}
 use Rattle.stability.specs.Stability.{stability, inverse_gain}
 use Rattle.nlsf.specs.Expand.{bwexpander32}
@@ -49,6 +56,20 @@ module _ (a : List ℤ) (i : ℕ) (h : i < 10) where
 pub fit_ends : (a : List ℤ) → lpc_fit 0 a ≡ saturated a
 unfolding lpc_fit
 fit_ends a = refl
+
+-- saturated coefficients are those of 16 bits in Q12, rounded
+back_in_q12 : (s : ℤ) → SFits w16 s → wrap16 (in_q12 (s *ℤ pos (2 ^ 5))) ≡ s
+unfolding in_q12
+back_in_q12 s h =
+    let z = s *ℤ pos (2 ^ 5) +ℤ pos (2 ^ 4) in
+    let q : floor_div z (2 ^ 5) ≡ s =
+    eq_parts (floor_div z (2 ^ 5)) s (omega (arith, div_parts z (2 ^ 5) (omega arith), add_parts (s *ℤ pos (2 ^ 5)) (pos (2 ^ 4)), mul-parts s (pos (2 ^ 5)))) in
+    rw (round_at (s *ℤ pos (2 ^ 5)) 4 (omega arith), q) (wrap_id h)
+
+pub rounded-saturated : (a : List ℤ) → rounded (saturated a).q17 ≡ (saturated a).q12
+unfolding rounded saturated
+rounded-saturated [] = refl
+rounded-saturated (x ∷ xs) = rw (back_in_q12 (sat16 (in_q12 x)) (sat16-fits _)) (ap (λ (r : List ℤ). sat16 (in_q12 x) ∷ r) (rounded-saturated xs))
 
 -- a round that stabilises them
 module _ (e : ℤ) (q a : List ℤ) (i : ℕ) (h : i < 16) where

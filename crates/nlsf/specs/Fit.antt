@@ -3,7 +3,7 @@ use Rattle.std.specs.Prelude.{ℕ, zero, suc, min, ◌-◌, ◌*◌, ◌/◌, �
 use Rattle.std.specs.Int.Signed.{lt_z}
 use Rattle.word.specs.Int.{wrap16, wrap32, sat16}
 use Rattle.macros.specs.Fixed.{rshift_round}
-use Rattle.nlsf.specs.declared.Peak.{Peak}
+use Rattle.nlsf.specs.declared.Largest.{Largest}
 use Rattle.nlsf.specs.Expand.{bwexpander32}
 
 -- coefficients in Q12, and those in Q17 that they come from
@@ -11,12 +11,12 @@ pub record Fit : Type 0 where
   pub q12 : List ℤ
   pub q17 : List ℤ
 
--- the larger of a peak and a size v at place k; the peak if they are equal
-unfoldable pub higher : Peak → ℤ → ℕ → Peak
+-- the larger of what was found before and a size v at place k, the first of equals
+unfoldable pub higher : Largest → ℤ → ℕ → Largest
 higher p v k = cond (lt_z p.size v) (record { size = v; place = k }) p
 
 -- the largest of the first n coefficients without their signs, the first if several are; the least number has a negative size
-unfoldable pub maxabs : List ℤ → ℕ → Peak
+unfoldable pub maxabs : List ℤ → ℕ → Largest
 maxabs a zero = record { size = pos 0; place = 0 }
 maxabs a (suc n) = higher (maxabs a n) (wrap32 (pos (nat_abs (get_or a n (pos 0))))) n
 

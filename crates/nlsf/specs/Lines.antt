@@ -65,8 +65,10 @@ unfoldable pub lpc_coefficient : List ℤ → List ℤ → ℕ → ℕ → ℤ
 lpc_coefficient p q d i =
     cond (ltb i (d / 2)) (wrap32 (neg_ℤ (odd_term q i +ℤ even_term p i))) (wrap32 (odd_term q (d - 1 - i) -ℤ even_term p (d - 1 - i)))
 
+-- the d coefficients (Q17) of the cosines of d lines
+unfoldable pub coefficients_of : List ℤ → ℕ → List ℤ
+coefficients_of c d = tabulate d (lpc_coefficient (poly c 0 (d / 2 - 1)) (poly c 1 (d / 2 - 1)) d)
+
 -- the coefficients of d lines (Q17)
 unfoldable pub lpc_coefficients : List ℤ → ℕ → List ℤ
-lpc_coefficients lines d =
-    let c = cosines lines d d in
-    tabulate d (lpc_coefficient (poly c 0 (d / 2 - 1)) (poly c 1 (d / 2 - 1)) d)
+lpc_coefficients lines d = coefficients_of (cosines lines d d) d

@@ -4,14 +4,15 @@
 
 mod tables;
 
-ghost use Rattle.std.specs.Prelude.{◌≡◌, true, false, ◌⊎◌, ◌++◌, min, ◌+◌, ◌-◌, ◌/◌, ◌%◌, ◌≤◌, ◌<◌, pos, nat_abs, length, drop, replicate};
+ghost use Rattle.std.specs.Prelude.{◌≡◌, true, false, ◌++◌, min, ◌+◌, ◌-◌, ◌/◌, ◌%◌, ◌≤◌, ◌<◌, pos, nat_abs, length, drop, replicate};
 ghost use Rattle.std.specs.Int.Signed.{lt_z};
 ghost use Rattle.word.specs.Int.{sat16};
 ghost use Rattle.word.specs.Tabulate.{tabulate};
 ghost use Rattle.edition.specs.Edition.{newer};
+ghost use Rattle.shape.specs.Order.{size};
 ghost use Rattle.nlsf.specs.Table.{lsf_cos};
 ghost use Rattle.nlsf.specs.Values.{LsfCosKept};
-ghost use Rattle.nlsf.specs.Lines.{negative_line, lsf_cosine, ordering, cosines, times_factor, poly, even_term, odd_term, lpc_coefficient, lpc_coefficients};
+ghost use Rattle.nlsf.specs.Lines.{negative_line, lsf_cosine, ordering, cosines, times_factor, poly, even_term, odd_term, lpc_coefficient, coefficients_of};
 ghost use Rattle.nlsf.specs.Expand.{next_factor, bwexpander32};
 ghost use Rattle.nlsf.specs.Fit.{higher, maxabs, fit_chirp, in_q12, rounded, saturated, lpc_fit};
 ghost use Rattle.nlsf.specs.Filter.{round_chirp, stabilised, nlsf2a, nlsf2a_refusal, nlsf2a_of};
@@ -19,13 +20,14 @@ ghost use Rattle.nlsf.specs.Filter.{round_chirp, stabilised, nlsf2a, nlsf2a_refu
 use edition::{NEWER, is_edition};
 use macros::{silk_rshift_round, silk_smulww};
 use refusal::{Refusal, refuse_if};
-use stability::{inverse_pred_gain, mul_q};
+use shape::Order;
+use stability::{Coefs, inverse_pred_gain, mul_q};
 use tables::{ORDERING10, ORDERING16, SILK_LSF_COS_TAB_FIX_Q12};
 use word::{abs32, add32, low16, mul32, neg32, sat16, shl32, sub32, wide16};
 
 // The largest coefficient without its sign, and its place.
 #[derive(Clone, Copy)]
-struct Peak {
+struct Largest {
     size: i32,
     place: usize,
 }
@@ -46,14 +48,6 @@ pub fn lsf_cos_kept()
     ensures { LsfCosKept }
 {}
 
-// A line as an unsigned number.
-fn unsigned(line: i16) -> usize
-    requires { lt_z line (pos 0) ≡ false }
-    ensures { (result ≡ nat_abs line) × (result < 32768) }
-{
-    line as usize
-}
-
 // Twice the cosine of a line.
 fn lsf_cosine(n: usize) -> i32
     requires { n < 32768 }
@@ -66,15 +60,15 @@ fn lsf_cosine(n: usize) -> i32
     silk_rshift_round(add32(shl32(cos_val, 8), mul32(delta, f_frac)), 4)
 }
 
-// The place of line k of d.
-fn ordering(d: usize, k: usize) -> usize
-    requires { ((d ≡ 10) ⊎ (d ≡ 16)) × (k < d) }
-    ensures { (result ≡ ordering d k) × (result < 16) }
+// The place of line k of an order.
+#[tactic(auto, using(crate::proofs::Lines::place16_lt, crate::proofs::Lines::place10_lt), unfolding(crate::specs::Lines::ordering, crate::specs::Lines::ordering10, crate::specs::Lines::ordering16))]
+fn ordering(order: Order, k: usize) -> usize
+    requires { k < size order }
+    ensures { (result ≡ ordering (size order) k) × (result < 16) }
 {
-    if d == 16 {
-        ORDERING16[k] as usize
-    } else {
-        ORDERING10[k] as usize
+    match order {
+        Order::Ten => ORDERING10[k] as usize,
+        Order::Sixteen => ORDERING16[k] as usize,
     }
 }
 
@@ -90,20 +84,21 @@ fn negative_line(nlsf: &[i16], d: usize) -> bool
     found
 }
 
-// The cosines of the first d lines, each at its place.
-fn cosines(nlsf: &[i16], d: usize) -> [i32; 16]
-    requires { ((d ≡ 10) ⊎ (d ≡ 16)) × (d ≤ length nlsf.now) × (negative_line nlsf.now d ≡ false) }
-    ensures { result ≡ cosines nlsf.now d d }
+// The cosines of an order's lines, each at its place.
+fn cosines(nlsf: &[i16], order: Order) -> [i32; 16]
+    requires { (size order ≤ length nlsf.now) × (negative_line nlsf.now (size order) ≡ false) }
+    ensures { result ≡ cosines nlsf.now (size order) (size order) }
 {
     let mut c = [0; 16];
-    for (k, line) in nlsf[..d].iter().enumerate() {
-        let place = ordering(d, k);
-        c[place] = lsf_cosine(unsigned(*line));
+    for (k, line) in nlsf[..order.size()].iter().enumerate() {
+        let place = ordering(order, k);
+        c[place] = lsf_cosine(usize::from(line.unsigned_abs()));
     }
     c
 }
 
 // Coefficient n, from 2 on, of a polynomial times a factor.
+#[tactic(auto, using(stability::proofs::Kept::words, word::proofs::Words::wrap_add_l, crate::proofs::Polynomials::term_at), unfolding(crate::specs::Lines::poly_term))]
 fn poly_term(f: i32, p: &[i32], n: usize) -> i32
     requires { (2 ≤ n) × (n < length p.now) }
     ensures { result ≡ times_factor f p.now n }
@@ -111,7 +106,7 @@ fn poly_term(f: i32, p: &[i32], n: usize) -> i32
     sub32(add32(p[n], p[n - 2]), mul_q(f, p[n - 1], 16))
 }
 
-// A polynomial times a factor, in place from the end.
+// A polynomial times a factor, in place from the end: by place, since each turn reads the two coefficients below its own.
 fn times_factor(f: i32, p: &mut [i32])
     requires { 2 ≤ length p.old }
     ensures { p.new ≡ tabulate (length p.old) (times_factor f p.old) }
@@ -168,10 +163,10 @@ fn lpc_coefficient(p: &[i32; 9], q: &[i32; 9], d: usize, i: usize) -> i32
     }
 }
 
-fn lpc_coefficients(p: &[i32; 9], q: &[i32; 9], d: usize) -> [i32; 16]
-    requires { (d % 2 ≡ 0) × (d ≤ 16) }
-    ensures { result ≡ tabulate d (lpc_coefficient p.now q.now d) ++ drop d (replicate 16 (pos 0)) }
+fn lpc_coefficients(p: &[i32; 9], q: &[i32; 9], order: Order) -> [i32; 16]
+    ensures { result ≡ tabulate (size order) (lpc_coefficient p.now q.now (size order)) ++ drop (size order) (replicate 16 (pos 0)) }
 {
+    let d = order.size();
     let mut a = [0; 16];
     for (i, x) in a[..d].iter_mut().enumerate() {
         *x = lpc_coefficient(p, q, d, i);
@@ -179,6 +174,7 @@ fn lpc_coefficients(p: &[i32; 9], q: &[i32; 9], d: usize) -> [i32; 16]
     a
 }
 
+#[tactic(auto, using(stability::proofs::Kept::words, word::proofs::Words::wrap_mul_r), unfolding(crate::specs::Expand::next_factor))]
 fn next_factor(chirp: i32, f: i32) -> i32
     ensures { result ≡ next_factor chirp f }
 {
@@ -195,19 +191,21 @@ fn silk_bwexpander_32(ar: &mut [i32], chirp: i32)
     }
 }
 
-fn higher(p: Peak, v: i32, k: usize) -> Peak
+#[tactic(auto, using(stability::proofs::Kept::words, word::proofs::Order::lt_read), unfolding(crate::specs::Fit::higher))]
+fn higher(p: Largest, v: i32, k: usize) -> Largest
     ensures { result ≡ higher p v k }
 {
     if v > p.size {
-        return Peak { size: v, place: k };
+        return Largest { size: v, place: k };
     }
     p
 }
 
-fn maxabs(a: &[i32]) -> Peak
+#[tactic(auto, using(stability::proofs::Kept::words), unfolding(crate::specs::Fit::maxabs))]
+fn maxabs(a: &[i32]) -> Largest
     ensures { result ≡ maxabs a.now (length a.now) }
 {
-    let mut p = Peak { size: 0, place: 0 };
+    let mut p = Largest { size: 0, place: 0 };
     for (k, x) in a.iter().enumerate() {
         p = higher(p, abs32(*x), k);
     }
@@ -239,18 +237,16 @@ fn rounded(a_q12: &mut [i16], a: &[i32])
     }
 }
 
-fn saturated(a_q12: &mut [i16], a: &mut [i32])
-    requires { length a_q12.old ≡ length a.old }
-    ensures { record { q12 = a_q12.new; q17 = a.new } ≡ saturated a.old }
+fn saturated(a: &mut [i32])
+    ensures { a.new ≡ (saturated a.old).q17 }
 {
-    for (k, x) in a.iter_mut().enumerate() {
-        let y = sat16(in_q12(*x));
-        a_q12[k] = y;
-        *x = shl32(wide16(y), 5);
+    for x in a.iter_mut() {
+        *x = shl32(wide16(sat16(in_q12(*x))), 5);
     }
 }
 
 // The chirp for a largest coefficient m (Q12) at a place.
+#[tactic(auto, using(stability::proofs::Kept::words, crate::proofs::Chirps::above))]
 fn chirp_of(m: i32, place: usize) -> i32
     requires { (lt_z (pos 32767) m ≡ true) × (place < 16) }
     ensures { result ≡ fit_chirp (min (nat_abs m) 163838) place }
@@ -263,6 +259,7 @@ fn silk_lpc_fit(a_q12: &mut [i16], a: &mut [i32])
     requires { (length a_q12.old ≡ length a.old) × (length a.old ≤ 16) }
     ensures { record { q12 = a_q12.new; q17 = a.new } ≡ lpc_fit 10 a.old }
 {
+    // Rounds that read no number of their own.
     for _ in 0..10usize {
         let p = maxabs(a);
         let m = in_q12(p.size);
@@ -273,9 +270,11 @@ fn silk_lpc_fit(a_q12: &mut [i16], a: &mut [i32])
             return;
         }
     }
-    saturated(a_q12, a);
+    saturated(a);
+    rounded(a_q12, a);
 }
 
+#[tactic(auto, using(stability::proofs::Kept::words, crate::proofs::Chirps::chirp_kept, crate::proofs::Chirps::round_shift_lem, crate::proofs::Chirps::round_le), unfolding(crate::specs::Filter::round_chirp))]
 fn round_chirp(i: usize) -> i32
     requires { i < 16 }
     ensures { result ≡ round_chirp i }
@@ -288,8 +287,9 @@ fn stabilise(a_q12: &mut [i16], a: &mut [i32], edition: i32)
     requires { (length a_q12.old ≡ length a.old) × (1 ≤ length a.old) × (length a.old ≤ 16) }
     ensures { record { q12 = a_q12.new; q17 = a.new } ≡ stabilised edition 16 0 (record { q12 = a_q12.old; q17 = a.old }) }
 {
+    // A round's number gives its chirp.
     for i in 0..16 {
-        if inverse_pred_gain(a_q12, a.len(), edition) != 0 {
+        if inverse_pred_gain(Coefs { a_q12: &*a_q12 }, edition) != 0 {
             return;
         }
         silk_bwexpander_32(a, round_chirp(i));
@@ -297,45 +297,35 @@ fn stabilise(a_q12: &mut [i16], a: &mut [i32], edition: i32)
     }
 }
 
-// The coefficients of the first d lines in Q17.
-fn from_lines(nlsf: &[i16], d: usize) -> [i32; 16]
-    requires { ((d ≡ 10) ⊎ (d ≡ 16)) × (d ≤ length nlsf.now) × (negative_line nlsf.now d ≡ false) }
-    ensures { result ≡ lpc_coefficients nlsf.now d ++ drop d (replicate 16 (pos 0)) }
+// The coefficients of an order in Q17 from the cosines of its lines.
+fn from_cosines(c: &[i32; 16], order: Order) -> [i32; 16]
+    ensures { result ≡ coefficients_of c.now (size order) ++ drop (size order) (replicate 16 (pos 0)) }
 {
-    let c = cosines(nlsf, d);
-    let p = silk_nlsf2a_find_poly(&c, 0, d / 2);
-    let q = silk_nlsf2a_find_poly(&c, 1, d / 2);
-    lpc_coefficients(&p, &q, d)
+    let n = order.size() / 2;
+    let p = silk_nlsf2a_find_poly(c, 0, n);
+    let q = silk_nlsf2a_find_poly(c, 1, n);
+    lpc_coefficients(&p, &q, order)
 }
 
-// Coefficients in Q17 made to fit 16 bits and stable.
-#[tactic(auto, using(stability::proofs::Kept::words))]
-fn settle(a_q12: &mut [i16], a: &mut [i32], edition: i32)
-    requires { (length a_q12.old ≡ length a.old) × (1 ≤ length a.old) × (length a.old ≤ 16) }
-    ensures { record { q12 = a_q12.new; q17 = a.new } ≡ stabilised edition 16 0 (lpc_fit 10 a.old) }
+// The filter of an order's lines, for callers whose lines are in range.
+pub fn nlsf2a(a_q12: &mut [i16], nlsf: &[i16], order: Order, edition: i32)
+    requires { (length a_q12.old ≡ size order) × (size order ≤ length nlsf.now) × (negative_line nlsf.now (size order) ≡ false) }
+    ensures { a_q12.new ≡ nlsf2a edition nlsf.now (size order) }
 {
-    silk_lpc_fit(a_q12, a);
-    stabilise(a_q12, a, edition);
-}
-
-// The filter of the first d lines, for callers whose order and lines are in range.
-pub fn nlsf2a(a_q12: &mut [i16], nlsf: &[i16], d: usize, edition: i32)
-    requires { ((d ≡ 10) ⊎ (d ≡ 16)) × (length a_q12.old ≡ d) × (d ≤ length nlsf.now) × (negative_line nlsf.now d ≡ false) }
-    ensures { a_q12.new ≡ nlsf2a edition nlsf.now d }
-{
-    let mut a = from_lines(nlsf, d);
-    settle(a_q12, &mut a[..d], edition);
+    let c = cosines(nlsf, order);
+    let mut a = from_cosines(&c, order);
+    let coefs = &mut a[..order.size()];
+    silk_lpc_fit(a_q12, coefs);
+    stabilise(a_q12, coefs, edition);
 }
 
 // Why the filter from lines refuses, with n places for the coefficients.
-#[tactic(auto, unfolding(crate::specs::Filter::nlsf2a_refusal, refusal::specs::First::first_of))]
-fn judge(n: usize, nlsf: &[i16], d: usize, edition: i32) -> Result<(), Refusal>
-    ensures { result ≡ nlsf2a_refusal n nlsf.now d edition }
+#[tactic(auto, using(crate::proofs::Accepted::lengths_refused), unfolding(crate::specs::Filter::nlsf2a_refusal, refusal::specs::First::first_of))]
+fn judge(n: usize, nlsf: &[i16], order: Order, edition: i32) -> Result<(), Refusal>
+    ensures { result ≡ nlsf2a_refusal n nlsf.now (size order) edition }
 {
-    refuse_if(
-        (d != 10) & (d != 16) | (n < d) | (nlsf.len() < d),
-        Refusal::Order,
-    )?;
+    let d = order.size();
+    refuse_if((n < d) | (nlsf.len() < d), Refusal::Order)?;
     refuse_if(negative_line(nlsf, d), Refusal::Line)?;
     refuse_if(!is_edition(edition), Refusal::Edition)
 }
@@ -350,8 +340,11 @@ pub fn silk_nlsf2a_under(
     ensures { (result ≡ nlsf2a_refusal (length a_q12.old) nlsf.now d edition)
         × (a_q12.new ≡ nlsf2a_of a_q12.old nlsf.now d edition) }
 {
-    judge(a_q12.len(), nlsf, d, edition)?;
-    nlsf2a(&mut a_q12[..d], nlsf, d, edition);
+    let Some(order) = Order::of(d) else {
+        return Err(Refusal::Order);
+    };
+    judge(a_q12.len(), nlsf, order, edition)?;
+    nlsf2a(&mut a_q12[..d], nlsf, order, edition);
     Ok(())
 }
 

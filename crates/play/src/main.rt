@@ -8,13 +8,11 @@ ghost use Rattle.play.specs.Play.{sound_of, how_of, total, counted_of};
 use decode_frame::silk_decode_frame;
 use decoder::{Answer, Settings, SilkDecoderState, set_up_with};
 use edition::NEWER;
-use input::read_full;
-use le::signed_byte;
-use record::{control_in, frame_in, lines_in, pulses_in, rows_in};
+use input::{is_filled, read_full};
+use record::Record;
 use refusal::Refusal;
-use std::fmt;
 use std::io::{self, Read, Write};
-use stream::{Head, Unplayed, read_header, samples_bytes, silence, wav_header};
+use stream::{Head, Told, read_header, samples_bytes, silence, wav_header};
 
 // What a record's frame is answered by, and its samples as bytes.
 #[derive(Clone, Copy)]
@@ -26,11 +24,12 @@ struct Sound {
 fn played(s: SilkDecoderState, rate: i32, subframes: i32, b: &[u8; 817]) -> Sound
     ensures { result ≡ sound_of s rate subframes b.now }
 {
-    let frame = frame_in(b);
-    let c = control_in(b);
-    let rows = rows_in(b);
-    let lines = lines_in(b);
-    let pulses = pulses_in(b);
+    let record = Record { bytes: b };
+    let frame = record.frame();
+    let c = record.control();
+    let rows = record.rows();
+    let lines = record.lines();
+    let pulses = record.pulses();
     let mut xq = silence();
     let answer = silk_decode_frame(s, rate, subframes, frame, c, rows, lines, &pulses, &mut xq);
     let bytes = samples_bytes(&xq);
@@ -80,74 +79,25 @@ fn counted(t: Tally, e: Ended) -> Tally
     new
 }
 
-// Why a record isn't read: the file ends within it, or its kind is unknown.
-#[derive(Clone, Copy)]
-enum Unread {
-    Cut(u32),
-    Kind(u32, u8),
-}
-
-impl fmt::Display for Unread {
-    fn fmt<W: fmt::Write>(&self, f: &mut fmt::Formatter<W>) -> fmt::Result {
-        match self {
-            Unread::Cut(i) => write!(f, "the file ends within record {i}"),
-            Unread::Kind(i, kind) => write!(
-                f,
-                "record {i} has the kind {kind}; known are 0 (lost) and 1 (received)"
-            ),
-        }
-    }
-}
-
-// Whether the input had the bytes to fill the buffer; else it ended before.
-fn is_filled(input: &mut impl Read, buffer: &mut [u8]) -> io::Result<bool> {
-    Ok(read_full(input, buffer)? == buffer.len())
-}
-
-// The bytes of record i but for the samples that end it, n bytes, which are passed over; of a lost frame's, the kind alone.
-fn next_record(input: &mut impl Read, i: u32, n: usize) -> io::Result<Result<[u8; 817], Unread>>
-    requires { n ≤ 640 }
-{
-    let mut bytes = [0; 817];
-    if !is_filled(input, &mut bytes[..1])? {
-        return Ok(Err(Unread::Cut(i)));
-    }
-    let kind = bytes[0];
-    if kind > 1 {
-        return Ok(Err(Unread::Kind(i, kind)));
-    }
-    if kind == 1 {
-        if !is_filled(input, &mut bytes[1..177 + n])? {
-            return Ok(Err(Unread::Cut(i)));
-        }
-    }
-    let mut samples = [0; 640];
-    if !is_filled(input, &mut samples[..n])? {
-        return Ok(Err(Unread::Cut(i)));
-    }
-    Ok(Ok(bytes))
-}
-
 fn play_records(
     input: &mut impl Read,
     out: &mut impl Write,
     err: &mut impl Write,
     s: SilkDecoderState,
-    rate: i32,
-    subframes: i32,
-    n: usize,
-    records: u32,
-) -> io::Result<()>
-    requires { n ≤ 640 }
-{
+    h: Head,
+) -> io::Result<()> {
+    let rate = i32::from(h.rate);
+    let subframes = i32::from(h.subframes);
+    let n = h.sample_bytes();
     let mut state = s;
     let mut t = Tally {
         received: 0,
         concealed: 0,
         refused: 0,
     };
-    for i in 0..records {
-        let bytes = match next_record(input, i, n)? {
+    // The index is a record's number, which its message says: the records come out of the input.
+    for i in 0..h.records {
+        let bytes = match h.next_record(input, i)? {
             Ok(bytes) => bytes,
             Err(unread) => return writeln!(err, "{unread}"),
         };
@@ -196,8 +146,6 @@ fn play(
     err: &mut impl Write,
     h: Head,
 ) -> io::Result<()> {
-    let rate = signed_byte(h.rate);
-    let subframes = signed_byte(h.subframes);
     let head = wav_header(1000 * u32::from(h.rate), h.samples);
     if out.write_all(&head).is_err() {
         return writeln!(err, "the WAV file could not be written");
@@ -207,17 +155,8 @@ fn play(
         squelch: 0,
         edition: NEWER,
     };
-    match set_up_with(rate, subframes, settings) {
-        Ok(s) => play_records(
-            input,
-            out,
-            err,
-            s,
-            rate,
-            subframes,
-            2 * shape::frame_length(rate, subframes),
-            h.records,
-        ),
+    match set_up_with(i32::from(h.rate), i32::from(h.subframes), settings) {
+        Ok(s) => play_records(input, out, err, s, h),
         Err(refusal) => writeln!(err, "no stream: {refusal}"),
     }
 }
@@ -233,20 +172,12 @@ fn main(rt: HostRuntime) -> io::Result<()> {
             say_stream(&mut err, h)?;
             play(&mut input, &mut out, &mut err, h)
         }
-        Err(Unplayed::Cut) => writeln!(err, "no stream: the file ends within its first 16 bytes"),
-        Err(Unplayed::Foreign) => writeln!(err, "no stream: the file has another format"),
-        Err(Unplayed::Rate(rate)) => {
-            writeln!(
-                err,
-                "no stream: its rate is {rate} kHz; played are 8, 12 and 16"
-            )
+        Err(why) => {
+            let told = Told {
+                why,
+                done: "played",
+            };
+            writeln!(err, "{told}")
         }
-        Err(Unplayed::Subframes(n)) => {
-            writeln!(
-                err,
-                "no stream: its frames have {n} subframes; played are 2 and 4"
-            )
-        }
-        Err(Unplayed::Long) => writeln!(err, "the stream is too long for a WAV file"),
     }
 }

@@ -1,14 +1,12 @@
 -- What is known of a recording that is read.
-use Prim.Native.Nat.{ℕ, ◌≤◌}
-use mathlib.Core.Path.{◌≡◌, refl, sym, ap, ◌∙◌, subst}
+use Prim.Native.Nat.{ℕ}
+use mathlib.Core.Path.{◌≡◌, refl, sym, ap, ◌∙◌}
 use mathlib.Core.Bool.{true, false≢true}
-use mathlib.Core.List.{List, map}
-use lib.ListN.{length, take, length-map}
+use mathlib.Core.List.{List}
 use mir.Syntax.{w32}
 use mir.Val.{to_z, of_z}
 use mir.Facts.{to_z-of_z}
-use Rattle.std.specs.Prelude.{Result, Ok, Err, is_ok}
-use Rattle.refusal.specs.Refusals.{Judged, code_of, answered}
+use Rattle.std.specs.Prelude.{Ok, Err, is_ok}
 use Rattle.refusal.specs.declared.Refusal.{Refusal}
 use Rattle.refusal.proofs.Clear.{answered_is}
 use Rattle.edition.specs.Edition.{is_edition}
@@ -17,74 +15,26 @@ use Rattle.decoder.specs.Ranges.{within}
 use Rattle.decoder.specs.SetUp.{set_up_with}
 use Rattle.decoder.specs.declared.SilkDecoderState.{SilkDecoderState}
 use Rattle.decoder.proofs.SetUps.{set_up_state, rate_fits, count_fits}
-use Rattle.chain.specs.Chain.{chain_of, on_chain, padded}
-use Rattle.chain.proofs.Records.{padded-front}
-use Rattle.recording.specs.Frames.{rate_in, count_in, recorded_at, frames_in, Inside}
-use Rattle.recording.specs.Reading.{read_refusal, read_of}
+use Rattle.recording.specs.Frames.{rate_in, count_in}
+use Rattle.recording.specs.Reading.{read_of}
 use Rattle.recording.specs.declared.Recording.{Recording}
-use Rattle.recording.proofs.Answers.{Clear, rows-clear, few-frames, inside_chain}
+use Rattle.recording.proofs.Accepted.{rows, rate_is, count_is}
 use Rattle.playback.specs.Playback.{plain, start_of}
 
 pub settings-fit : settings_fit plain ≡ true
 unfolding settings_fit is_squelch is_edition within
 settings-fit = refl
 
--- what it is refused by
-pub not_read : (b : List ℕ) {f : Refusal} → read_of b ≡ Err f → read_refusal b ≡ Err f
-unfolding read_of
-not_read b {f} h = go _ (read_refusal b) h
-  where
-    row : {A : Type 0} → Refusal → Result A Refusal → Refusal
-    row d (Ok x) = d
-    row d (Err r) = r
-
-    go : (x : Recording) (j : Judged) → answered j x ≡ Err f → j ≡ Err f
-    go x (Ok u) k = absurd (false≢true (sym (ap is_ok k)))
-    go x (Err r) k = ap (λ (q : Result Recording Refusal). Err (row r q)) k
-
 module _ (b : List ℕ) (r : Recording) (e : read_of b ≡ Ok r) where
-  both : (code_of (read_refusal b) ≡ 0) × (record { rate = rate_in b; subframes = count_in b; frames = length (on_chain (chain_of b)); records = padded (on_chain (chain_of b)) } ≡ r)
-  unfolding read_of
-  both = answered_is (read_refusal b) _ r e
-
-  pub read-well : code_of (read_refusal b) ≡ 0
-  read-well = both.0
-
-  pub rows : Clear b
-  rows = rows-clear b read-well
-
   pub rate-back : to_z w32 (of_z w32 r.rate) ≡ rate_in b
-  rate-back = ap (λ (q : Recording). to_z w32 (of_z w32 q.rate)) (sym both.1) ∙ to_z-of_z (rate_fits (rate_in b) rows.rate)
+  rate-back = ap (λ z. to_z w32 (of_z w32 z)) (rate_is b r e) ∙ to_z-of_z (rate_fits (rate_in b) (rows b r e).rate)
 
   pub count-back : to_z w32 (of_z w32 r.subframes) ≡ count_in b
-  count-back = ap (λ (q : Recording). to_z w32 (of_z w32 q.subframes)) (sym both.1) ∙ to_z-of_z (count_fits (count_in b) rows.count)
-
-  pub frames_are : r.frames ≡ length (on_chain (chain_of b))
-  frames_are = ap (λ (q : Recording). q.frames) (sym both.1)
-
-  pub few : r.frames ≤ 60
-  few = rw frames_are (few-frames b rows.whole)
-
-  pub on-chain : take r.frames r.records ≡ on_chain (chain_of b)
-  on-chain = ap (λ (q : Recording). take q.frames q.records) (sym both.1) ∙ padded-front (on_chain (chain_of b))
-
-  pub lies : Inside b (take r.frames r.records)
-  lies = subst (Inside b) (sym on-chain) (inside_chain b rows.whole)
-
-  pub many : length (take r.frames r.records) ≡ r.frames
-  many = ap length on-chain ∙ sym frames_are
-
-  pub frames-back : map (recorded_at b) (take r.frames r.records) ≡ frames_in b
-  unfolding frames_in
-  frames-back = ap (map (recorded_at b)) on-chain
-
-  pub frames_count : r.frames ≡ length (frames_in b)
-  unfolding frames_in
-  frames_count = frames_are ∙ sym (length-map (on_chain (chain_of b)) (recorded_at b))
+  count-back = ap (λ z. to_z w32 (of_z w32 z)) (count_is b r e) ∙ to_z-of_z (count_fits (count_in b) (rows b r e).count)
 
   -- its post is set up
   sets-up : set_up_with (to_z w32 (of_z w32 r.rate)) (to_z w32 (of_z w32 r.subframes)) plain ≡ Ok (start_of b)
-  sets-up = (λ i. set_up_with (rate-back i) (count-back i) plain) ∙ set_up_state (rate_in b) (count_in b) plain rows.rate rows.count settings-fit
+  sets-up = (λ i. set_up_with (rate-back i) (count-back i) plain) ∙ set_up_state (rate_in b) (count_in b) plain (rows b r e).rate (rows b r e).count settings-fit
 
   pub started : (s : SilkDecoderState) → set_up_with (to_z w32 (of_z w32 r.rate)) (to_z w32 (of_z w32 r.subframes)) plain ≡ Ok s → s ≡ start_of b
   started s h = sym (answered_is (Ok tt) (start_of b) s (sym sets-up ∙ h)).1

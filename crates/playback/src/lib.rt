@@ -2,19 +2,19 @@
 // Inner: every function but play.
 #![tactic(auto)]
 
-ghost use Rattle.std.specs.Prelude.{◌≡◌, ◌++◌, map, ◌+◌, ◌*◌, ◌≤◌, IfOk, length, drop};
+ghost use Rattle.std.specs.Prelude.{◌≡◌, ◌++◌, map, ◌*◌, ◌≤◌, IfOk, length, drop};
 ghost use Rattle.decoder.specs.SetUp.{set_up_with};
 ghost use Rattle.record.specs.Recorded.{lost, recorded_in};
-ghost use Rattle.recording.specs.Frames.{recorded_at, Inside};
+ghost use Rattle.recording.specs.Frames.{recorded_at};
 ghost use Rattle.decode_frame.specs.Answer.{state_left};
-ghost use Rattle.playback.specs.Playback.{plain, call_of, sound_of, samples_from, received_one, received_in, play_of};
+ghost use Rattle.playback.specs.Playback.{plain, call_of, sound_of, samples_from, received_in, play_of};
 ghost use Rattle.playback.specs.Claims.{RecordingPlays};
 
 use decode_frame::{lost_frame, received_frame};
 use decoder::{Answer, Settings, SilkDecoderControl, SilkDecoderState, set_up_with};
 use edition::NEWER;
-use record::{control_in, lines_in, params_in, pulses_in, rows_in};
-use recording::read;
+use record::Record;
+use recording::{Frames, read};
 use refusal::{Refusal, refuse_if};
 use sigproc::copy_at;
 
@@ -50,53 +50,43 @@ pub fn lost_sound(s: SilkDecoderState, rate: i32, subframes: i32) -> Sound
     Sound { state, samples }
 }
 
-// The frame of a record's bytes.
-pub fn frame_sound(s: SilkDecoderState, rate: i32, subframes: i32, b: &[u8]) -> Sound
-    requires { 817 ≤ length b.now }
-    ensures { result ≡ sound_of s (call_of rate subframes (recorded_in b.now)) }
+// The frame of a record.
+pub fn frame_sound(s: SilkDecoderState, rate: i32, subframes: i32, record: &Record) -> Sound
+    ensures { result ≡ sound_of s (call_of rate subframes (recorded_in record.now.bytes.now)) }
 {
-    if b[0] != 1 {
+    if !record.is_received() {
         return lost_sound(s, rate, subframes);
     }
-    let q = params_in(b);
-    let c = control_in(b);
-    let rows = rows_in(b);
-    let lines = lines_in(b);
-    let pulses = pulses_in(b);
+    let q = record.params();
+    let c = record.control();
+    let rows = record.rows();
+    let lines = record.lines();
+    let pulses = record.pulses();
     let mut samples = [0; 320];
     let answer = received_frame(s, rate, subframes, q, c, rows, lines, &pulses, &mut samples);
     let state = state_left(s, answer);
     Sound { state, samples }
 }
 
-// The frame of record i.
-pub fn sound_at(s: SilkDecoderState, rate: i32, subframes: i32, bytes: &[u8], i: u8) -> Sound
-    requires { 1024 * i + 1024 ≤ length bytes.now }
-    ensures { result ≡ sound_of s (call_of rate subframes (recorded_at bytes.now i)) }
-{
-    let at = 1024 * usize::from(i) + 2;
-    frame_sound(s, rate, subframes, &bytes[at..])
-}
-
-// The frames of records from a state: the count of samples that they play.
+// Frames from a state: the count of samples that they play.
 fn play_frames(
     s: SilkDecoderState,
     rate: i32,
     subframes: i32,
-    bytes: &[u8],
-    records: &[u8],
+    frames: &Frames,
     output: &mut [i16],
 ) -> usize
-    requires { Inside bytes.now records.now × (320 * length records.now ≤ length output.old) }
-    ensures { (result ≡ length (samples_from rate subframes s (map (recorded_at bytes.now) records.now)))
-        × (output.new ≡ samples_from rate subframes s (map (recorded_at bytes.now) records.now) ++ drop result output.old) × (result ≤ 320 * length records.now) }
+    requires { 320 * length frames.now.records.now ≤ length output.old }
+    ensures { (result ≡ length (samples_from rate subframes s (map (recorded_at frames.now.bytes.now) frames.now.records.now)))
+        × (output.new ≡ samples_from rate subframes s (map (recorded_at frames.now.bytes.now) frames.now.records.now) ++ drop result output.old)
+        × (result ≤ 320 * length frames.now.records.now) }
 {
     let size = shape::frame_length(rate, subframes);
     let mut state = s;
     // The place is counted by hand: it is the answer.
     let mut at = 0;
-    for i in records {
-        let t = sound_at(state, rate, subframes, bytes, *i);
+    for i in frames.records {
+        let t = frame_sound(state, rate, subframes, &frames.record(*i));
         copy_at(output, at, &t.samples[..size]);
         state = t.state;
         at += size;
@@ -104,21 +94,13 @@ fn play_frames(
     at
 }
 
-fn received_one(bytes: &[u8], i: u8) -> usize
-    requires { 1024 * i + 1024 ≤ length bytes.now }
-    ensures { (result ≡ received_one (recorded_at bytes.now i)) × (result ≤ 1) }
-{
-    usize::from(bytes[1024 * usize::from(i) + 2] == 1)
-}
-
-// The received frames of records.
-fn received_in(bytes: &[u8], records: &[u8]) -> usize
-    requires { Inside bytes.now records.now }
-    ensures { (result ≡ received_in (map (recorded_at bytes.now) records.now)) × (result ≤ length records.now) }
+// The received ones among frames.
+fn received_in(frames: &Frames) -> usize
+    ensures { (result ≡ received_in (map (recorded_at frames.now.bytes.now) frames.now.records.now)) × (result ≤ length frames.now.records.now) }
 {
     let mut count = 0;
-    for i in records {
-        count += received_one(bytes, *i);
+    for i in frames.records {
+        count += usize::from(frames.record(*i).is_received());
     }
     count
 }
@@ -149,9 +131,9 @@ pub fn play(bytes: &[u8], output: &mut [i16]) -> Result<Played, Refusal>
     refuse_if(output.len() < most, Refusal::Record)?;
     let r = read(bytes)?;
     let s = set_up_for(r.rate, r.subframes)?;
-    let records = &r.records[..r.frames];
-    let samples = play_frames(s, r.rate, r.subframes, bytes, records, output);
-    let received = received_in(bytes, records);
+    let frames = r.frames_in(bytes);
+    let samples = play_frames(s, r.rate, r.subframes, &frames, output);
+    let received = received_in(&frames);
     Ok(Played {
         received,
         concealed: r.frames - received,

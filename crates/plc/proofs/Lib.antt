@@ -4,7 +4,6 @@ pub mod Noise
 pub mod Tap
 pub mod Updated
 pub mod Gain
-pub mod Fill
 pub mod Rewhiten
 pub mod Excite
 pub mod Pitch

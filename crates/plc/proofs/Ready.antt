@@ -1,7 +1,6 @@
 -- What holds of a shape's order, of concealment that is ready for a rate, and of one loss more.
 use Prim.Native.Nat.{ℕ, zero, suc, ◌+◌, ◌*◌, ◌^◌, ◌<◌, ◌≤◌}
 use mathlib.Core.Path.{◌≡◌, refl, sym}
-use mathlib.Core.Logic.{◌⊎◌, inl, inr}
 use mathlib.Core.Bool.{Bool, true, false, cond}
 use mathlib.Core.List.{[], ◌∷◌}
 use native.Mathlib.Omega.{arith}
@@ -20,11 +19,11 @@ use Rattle.decoder.proofs.Between.{Between}
 use Rattle.decoder.proofs.Bounds.{PlcBounds, PlcHeldBounds, short}
 use Rattle.plc.specs.Hold.{plc_reset, plc_ready}
 
-pub orders : {r : ℕ} → Rates r → ((order_of r ≡ 10) ⊎ (order_of r ≡ 16)) × (order_of r + 2 ≤ 2 * r)
+pub order_room : {r : ℕ} → Rates r → order_of r + 2 ≤ 2 * r
 unfolding order_of
-orders (at8 e) = rw e (inl refl, lit≤ tt)
-orders (at12 e) = rw e (inl refl, lit≤ tt)
-orders (at16 e) = rw e (inr refl, lit≤ tt)
+order_room (at8 e) = rw e (lit≤ tt)
+order_room (at12 e) = rw e (lit≤ tt)
+order_room (at16 e) = rw e (lit≤ tt)
 
 reset_gains : (i : ℕ) → i < 2 → Between 65536 1686110208 (get_or (pos 65536 ∷ pos 65536 ∷ []) i (pos 0))
 reset_gains zero h = record { is = refl; low = lit≤ tt; high = lit≤ tt }

@@ -1,21 +1,23 @@
 -- The residual of a part of the history is that of the whole.
 use Prim.Native.Nat.{ℕ, zero, suc, ◌+◌, ◌-◌, ◌<◌, ◌≤◌}
 use mathlib.Core.Path.{◌≡◌, refl, sym, ap, ◌∙◌}
-use mathlib.Core.Logic.{◌⊎◌, inl, inr}
 use mathlib.Core.Bool.{Bool, true, false, cond}
-use mathlib.Core.List.{List}
+use mathlib.Core.List.{List, ◌++◌, map}
 use native.Mathlib.Omega.{arith}
-use borrow.Author.Tests.{ltb-false, le-ltb}
-use borrow.Rule.Slice.PartMut.{put_mid}
+use borrow.Author.Tests.{ltb-true, ltb-false, le-ltb}
+use borrow.Rule.Slice.PartMut.{mid_of, put_mid, same_len_mid}
 use lib.Dec.{ltb}
 use lib.IntN.{ℤ, pos}
-use lib.ListN.{length, get_or, take, drop, length-drop, get_or-append}
-use lib.Seq.{get_or-drop, get_or-take, get_or-append-add, length-take-le}
+use lib.ListN.{length, get_or, take, drop, length-drop, length-append, get_or-append}
+use lib.Seq.{ext_get_or, get_or-drop, get_or-take, get_or-append-add, length-take-le}
+use Rattle.std.proofs.lemmas.Slice.{take-put_mid}
 use Rattle.word.specs.Tabulate.{tabulate}
-use Rattle.word.proofs.Lists.{get_or-tabulate, tabulate_cong}
+use Rattle.word.proofs.Lists.{length-tabulate, get_or-tabulate}
 use Rattle.macros.specs.Fixed.{smulwb}
 use Rattle.sigproc.specs.Analysis.{products, residual, analysis}
+use Rattle.sigproc.proofs.Fill.{length-map, get_or-map}
 use Rattle.sigproc.proofs.Ranges.{length-analysis}
+use Rattle.plc.specs.Conceal.{AllZero}
 
 module _ (ob a : List ℤ) (start mem d i : ℕ) (low : start + d ≤ i) (high : i < mem) where
   -- a sample of the part is one of the history
@@ -53,21 +55,54 @@ module _ (ob a : List ℤ) (start mem d i : ℕ) (low : start + d ≤ i) (high :
         ∙ get_or-tabulate (length x) _ (i - start) (omega arith)
         ∙ rw (le-ltb (i - start) d (omega arith)) residual-part
 
--- the buffer that the filter filled in part, divided by the gain
-pub rewhitened-part : (z ob a : List ℤ) (inv : ℤ) (d mem lag : ℕ) → lag + d + 2 ≤ mem → mem ≤ length ob → mem ≤ length z
-    → tabulate mem (λ i. cond (ltb i (mem - lag - 2)) (pos 0) (smulwb inv (get_or (put_mid (mem - lag - 2 - d) (mem - (mem - lag - 2 - d)) z (analysis (take (mem - (mem - lag - 2 - d)) (drop (mem - lag - 2 - d) ob)) a d)) i (pos 0))))
-    ≡ tabulate mem (λ i. cond (ltb i (mem - lag - 2)) (pos 0) (smulwb inv (residual (take mem ob) a d i)))
-rewhitened-part z ob a inv d mem lag h lent room =
-    tabulate_cong mem _ _ (λ i k. go i k (ltb i (mem - lag - 2)) refl)
-  where
-    go : (i : ℕ) → i < mem → (t : Bool) → ltb i (mem - lag - 2) ≡ t
-        → cond t (pos 0) (smulwb inv (get_or (put_mid (mem - lag - 2 - d) (mem - (mem - lag - 2 - d)) z (analysis (take (mem - (mem - lag - 2 - d)) (drop (mem - lag - 2 - d) ob)) a d)) i (pos 0)))
-        ≡ cond t (pos 0) (smulwb inv (residual (take mem ob) a d i))
-    go i k true e = refl
-    go i k false e =
-        let l = ltb-false i (mem - lag - 2) e in
-        ap (smulwb inv) (written ob a (mem - lag - 2 - d) mem d i (omega arith) k z lent room)
+-- the buffer of zeros, its part from a place on filled with what the filter gave there, divided by the gain
+module _ (buf z ob a : List ℤ) (inv : ℤ) (d mem lag : ℕ) (h : lag + d + 2 ≤ mem) (lent : mem ≤ length ob) (room : mem ≤ length z) (size : mem ≤ length buf) where
+  abbrev from : ℕ
+  from = mem - lag - 2
 
-pub order_range : (d : ℕ) → (d ≡ 10) ⊎ (d ≡ 16) → (1 ≤ d) × (d ≤ 16)
-order_range d (inl e) = (omega arith, omega arith)
-order_range d (inr e) = (omega arith, omega arith)
+  -- what the filter gave
+  abbrev given : List ℤ
+  given =
+      put_mid (from - d) (mem - (from - d)) z (analysis (take (mem - (from - d)) (drop (from - d) ob)) a d)
+
+  given-length : length given ≡ length z
+  given-length =
+      let start = from - d in
+      let x = take (mem - start) (drop start ob) in
+      let lx : length x ≡ mem - start = length-take-le (mem - start) (drop start ob) (simp length-drop (omega arith)) in
+      same_len_mid start (mem - start) z (analysis x a d) (length-analysis x a d ∙ lx ∙ sym (length-take-le (mem - start) (drop start z) (simp length-drop (omega arith))))
+
+  abbrev divided : List ℤ
+  divided = map (smulwb inv) (mid_of from (mem - from) given)
+
+  mid-length : length (mid_of from (mem - from) given) ≡ mem - from
+  mid-length =
+      length-take-le (mem - from) (drop from given) (simp length-drop (rw given-length (omega arith)))
+
+  divided-length : length divided ≡ mem - from
+  divided-length = length-map (smulwb inv) (mid_of from (mem - from) given) ∙ mid-length
+
+  -- a place
+  sample_at : (i : ℕ) → i < mem → (t : Bool) → ltb i from ≡ t → AllZero buf → get_or (take from buf ++ divided) i (pos 0) ≡ cond t (pos 0) (smulwb inv (residual (take mem ob) a d i))
+  sample_at i k true e zeros =
+      let l : i < from = ltb-true i from e in
+      get_or-append (take from buf) divided (pos 0) i (rw (length-take-le from buf (omega arith)) l) ∙ get_or-take from buf i (pos 0) l ∙ zeros i
+  sample_at i k false e zeros =
+      let l = ltb-false i from e in
+      let lt : length (take from buf) ≡ from = length-take-le from buf (omega arith) in
+      let j : i ≡ length (take from buf) + (i - from) = omega arith in
+      let m : from + (i - from) ≡ i = omega arith in
+      let inside : i - from < mem - from = omega arith in
+      ap (λ (n : ℕ). get_or (take from buf ++ divided) n (pos 0)) j
+      ∙ get_or-append-add (take from buf) divided (i - from) (pos 0)
+      ∙ get_or-map (smulwb inv) (mid_of from (mem - from) given) (i - from) (rw mid-length inside)
+      ∙ ap (smulwb inv) (get_or-take (mem - from) (drop from given) (i - from) (pos 0) inside ∙ get_or-drop from given (i - from) (pos 0) ∙ rw m (written ob a (from - d) mem d i (omega arith) k z lent room))
+
+  pub rewhitened-buffer : AllZero buf → take mem (put_mid from (mem - from) buf divided) ≡ tabulate mem (λ i. cond (ltb i from) (pos 0) (smulwb inv (residual (take mem ob) a d i)))
+  rewhitened-buffer zeros =
+      let f : ℕ → ℤ = λ i. cond (ltb i from) (pos 0) (smulwb inv (residual (take mem ob) a d i)) in
+      let lt : length (take from buf) ≡ from = length-take-le from buf (omega arith) in
+      let n : length (take from buf ++ divided) ≡ mem = simp length-append (omega (arith, lt, divided-length)) in
+      take-put_mid from (mem - from) buf divided mem (omega (arith, divided-length)) (omega arith)
+      ∙ ext_get_or (pos 0) (take from buf ++ divided) (tabulate mem f) (n ∙ sym (length-tabulate mem f))
+      (λ i k. let l : i < mem = rw n at k in sample_at i l (ltb i from) refl zeros ∙ sym (get_or-tabulate mem f i l))

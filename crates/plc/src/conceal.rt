@@ -9,14 +9,15 @@ ghost use Rattle.macros.specs.Quotient.{inverse32_varq};
 ghost use Rattle.sigproc.specs.Analysis.{residual};
 ghost use Rattle.sigproc.specs.Expand.{bwexpander};
 ghost use Rattle.sigproc.specs.Synthesis.{synthesis, played};
-ghost use Rattle.shape.specs.Shape.{is_rate, is_count, rate_of, frame_length};
+ghost use Rattle.shape.specs.Order.{size};
+ghost use Rattle.shape.specs.Shape.{shape, is_rate, is_count, rate_of, count_of, order_of, frame_length};
 ghost use Rattle.decoder.specs.State.{shape_of};
 ghost use Rattle.decoder.specs.With.{with_memory, with_losses, with_plc};
 ghost use Rattle.decoder.specs.Ranges.{subframes_held, plc_held, plc_fits};
 ghost use Rattle.judge.specs.Taps.{tap_sum};
-ghost use Rattle.plc.specs.Hold.{shape_at, hold};
+ghost use Rattle.plc.specs.Hold.{hold, plc_ready};
 ghost use Rattle.plc.specs.Answer.{plc_lost, plc_lost_output};
-ghost use Rattle.plc.specs.Conceal.{AllZero, pitched, heard_by, place_from, coefficients, voice, concealed, lagged, plc_conceal, later_gain, signal_by, concealed_by, harm_gain, noise_gain, noise_scale, voice_of, lag_of, rewhitened, excited_times, faded, faded_voice, voices, voice_by};
+ghost use Rattle.plc.specs.Conceal.{AllZero, pitched, noise_place, coefficients, voice, signal, held_after, concealed, lagged, plc_conceal, later_gain, signal_by, concealed_by, harm_gain, noise_gain, noise_scale, voice_of, lag_of, rewhitened, excited_times, faded, faded_voice, voices, voice_by};
 
 use crate::update::{noise_place, pitch_max_q8, ready};
 use decoder::{Answer, SilkDecoderControl, SilkDecoderState, SilkPLCState};
@@ -26,11 +27,11 @@ use macros::{
     silk_smulbb, silk_smulwb,
 };
 use refusal::Refusal;
-use shape::{Rate, count_of};
+use shape::{FrameShape, Order, Rate, count_of};
 use sigproc::{
     copy_at, ltp_prediction, scale_out, silk_bwexpander, silk_lpc_analysis_filter, synthesis,
 };
-use stability::inverse_pred_gain;
+use stability::{Coefs, inverse_pred_gain};
 use word::{add32, low16, shl32, shr32, sub32, wide16};
 
 // The coefficients held, or none while no frame was received.
@@ -44,12 +45,11 @@ fn held_coefficients(first_frame_after_reset: i32, prev_lpc_q12: [i16; 16]) -> [
     }
 }
 
-fn coefficients(first_frame_after_reset: i32, prev_lpc_q12: [i16; 16], d: usize) -> [i16; 16]
-    requires { d ≤ 16 }
-    ensures { result ≡ bwexpander (pos 64881) (cond (eq_ℤ first_frame_after_reset (pos 0)) prev_lpc_q12 (replicate 16 (pos 0))) d }
+fn coefficients(first_frame_after_reset: i32, prev_lpc_q12: [i16; 16], order: Order) -> [i16; 16]
+    ensures { result ≡ bwexpander (pos 64881) (cond (eq_ℤ first_frame_after_reset (pos 0)) prev_lpc_q12 (replicate 16 (pos 0))) (size order) }
 {
     let mut a = held_coefficients(first_frame_after_reset, prev_lpc_q12);
-    silk_bwexpander(&mut a, d, 64881);
+    silk_bwexpander(&mut a, order.size(), 64881);
     a
 }
 
@@ -82,15 +82,25 @@ fn limited_gain(inv_gain_q30: i32) -> i32
     )
 }
 
-fn noise_gain(loss_cnt: i32, prev_signal_type: i32, edition: i32, a: &[i16; 16], d: usize) -> i32
-    requires { (1 ≤ d) × (d ≤ 16) }
-    ensures { result ≡ noise_gain loss_cnt prev_signal_type edition (take d a.now) }
+fn noise_gain(
+    loss_cnt: i32,
+    prev_signal_type: i32,
+    edition: i32,
+    a: &[i16; 16],
+    order: Order,
+) -> i32
+    ensures { result ≡ noise_gain loss_cnt prev_signal_type edition (take (size order) a.now) }
 {
     match prev_signal_type {
         2 => by_loss(loss_cnt, 31130, 26214),
         _ => {
             if loss_cnt == 0 {
-                limited_gain(inverse_pred_gain(a, d, edition))
+                limited_gain(inverse_pred_gain(
+                    Coefs {
+                        a_q12: &a[..order.size()],
+                    },
+                    edition,
+                ))
             } else {
                 29491
             }
@@ -173,35 +183,39 @@ fn noise_scale(
     }
 }
 
-// The residual of the history from a place on, divided by the gain.
-fn divide(buf: &mut [i32], residual: &[i16; 320], from: usize, mem: usize, inv_gain_q30: i32)
-    requires { (from ≤ mem) × (mem ≤ 320) × (mem ≤ length buf.old) × AllZero buf.old }
-    ensures { buf.new ≡ tabulate mem (λ i. cond (ltb i from) (pos 0) (smulwb inv_gain_q30 (get_or residual.now i (pos 0)))) ++ drop mem buf.old }
+// A part of the residual, divided by the gain.
+fn divide(part: &mut [i32], residual: &[i16], inv_gain_q30: i32)
+    requires { length part.old ≡ length residual.now }
+    ensures { part.new ≡ map (smulwb inv_gain_q30) residual.now }
 {
-    // A zip over the parts of both leaves the proof without the elements.
-    for i in from..mem {
-        buf[i] = silk_smulwb(inv_gain_q30, wide16(residual[i]));
+    for (i, x) in part.iter_mut().enumerate() {
+        *x = silk_smulwb(inv_gain_q30, wide16(residual[i]));
     }
 }
 
 // The history rewhitened and divided by the gain, as far back as a prediction reads.
 fn rewhiten(
-    buf: &mut [i32],
-    out_buf: &[i16],
+    buf: &mut [i32; 640],
+    out_buf: &[i16; 480],
     a: &[i16; 16],
-    d: usize,
-    mem: usize,
-    lag: usize,
-    inv_gain_q30: i32,
+    h: SilkPLCState,
+    frame: FrameShape,
 )
-    requires { ((d ≡ 10) ⊎ (d ≡ 16)) × (lag + d + 2 ≤ mem) × (mem ≤ 320) × (mem ≤ length buf.old) × (mem ≤ length out_buf.now) × AllZero buf.old }
-    ensures { buf.new ≡ tabulate mem (λ i. cond (ltb i (mem - lag - 2)) (pos 0) (smulwb inv_gain_q30 (residual (take mem out_buf.now) a.now d i))) ++ drop mem buf.old }
+    requires { AllZero buf.old × (pitched (rate_of frame.fs_khz) h.pitch_l_q8 ≡ true) }
+    ensures { take (20 * rate_of frame.fs_khz) buf.new ≡ rewhitened (shape frame.fs_khz frame.nb_subfr) out_buf.now a.now h }
 {
+    let lag = lag_of(h.pitch_l_q8) as usize;
+    let order = frame.order();
+    let mem = Rate::ltp_mem_length(frame.fs_khz);
     let from = mem - lag - 2;
-    let start = from - d;
+    let start = from - order.size();
     let mut s_ltp = [0; 320];
-    silk_lpc_analysis_filter(&mut s_ltp[start..mem], &out_buf[start..mem], a, d);
-    divide(buf, &s_ltp, from, mem, inv_gain_q30);
+    silk_lpc_analysis_filter(&mut s_ltp[start..mem], &out_buf[start..mem], a, order);
+    divide(
+        &mut buf[from..mem],
+        &s_ltp[from..mem],
+        inverse_gain(h.prev_gain_q16[1]),
+    );
 }
 
 // What a subframe carries on beside the history.
@@ -213,19 +227,18 @@ pub struct Carried {
     pub seed: i32,
 }
 
-// The excitation of n samples from place at on: the prediction, and noise drawn from place from of exc on. The seed after them.
+// The excitation of n samples from place at on: the prediction, and noise. The seed after them.
 fn excite(
-    buf: &mut [i32],
-    exc: &[i32],
-    from: usize,
+    buf: &mut [i32; 640],
+    noise: &[i32; 128],
     k: Carried,
     lag: usize,
     at: usize,
     n: usize,
 ) -> i32
-    requires { (from + 128 ≤ length exc.now) × (3 ≤ lag) × (lag + 2 ≤ at) × (at + n ≤ length buf.old) }
-    ensures { (result ≡ (excited_times exc.now from lag n (voice_of (take at buf.old) k)).seed)
-        × (take (at + n) buf.new ≡ (excited_times exc.now from lag n (voice_of (take at buf.old) k)).past) }
+    requires { (3 ≤ lag) × (lag + 2 ≤ at) × (at + n ≤ 640) }
+    ensures { (result ≡ (excited_times noise.now 0 lag n (voice_of (take at buf.old) k)).seed)
+        × (take (at + n) buf.new ≡ (excited_times noise.now 0 lag n (voice_of (take at buf.old) k)).past) }
 {
     let taps = k.taps;
     let scale = k.scale_q14;
@@ -233,9 +246,9 @@ fn excite(
     // By index, since each prediction reads what the turns before it wrote.
     for i in 0..n {
         seed = silk_rand(seed);
-        let noise = exc[from + noise_index(seed)];
+        let drawn = noise[noise_index(seed)];
         let p = ltp_prediction(buf, &taps, at + i - lag + 2);
-        buf[at + i] = excited_sample(p, noise, scale);
+        buf[at + i] = excited_sample(p, drawn, scale);
     }
     seed
 }
@@ -247,79 +260,83 @@ fn lag_of(pitch_q8: i32) -> i32
     silk_rshift_round(pitch_q8, 8)
 }
 
-// A subframe from place at on, and what it carries on.
-fn subframe(
-    buf: &mut [i32],
-    exc: &[i32],
-    from: usize,
-    k: Carried,
-    khz: i32,
-    at: usize,
+// The gains (Q15) of the taps and of the noise from subframe to subframe.
+#[derive(Clone, Copy)]
+struct Fading {
     harm_gain_q15: i32,
     rand_gain_q15: i32,
+}
+
+// A subframe from place at on, and what it carries on.
+fn subframe(
+    buf: &mut [i32; 640],
+    noise: &[i32; 128],
+    k: Carried,
+    fading: Fading,
+    frame: FrameShape,
+    at: usize,
 ) -> Carried
-    requires { (from + 128 ≤ length exc.now) × (8 ≤ rate_of khz) × (20 * rate_of khz ≤ at) × (at + 5 * rate_of khz ≤ length buf.old)
-        × (pitched (rate_of khz) k.pitch_q8 ≡ true) }
-    ensures { voice_of (take (at + 5 * rate_of khz) buf.new) result ≡ faded_voice (rate_of khz) harm_gain_q15 rand_gain_q15
-        (excited_times exc.now from (nat_abs (lag_of k.pitch_q8)) (5 * rate_of khz) (voice_of (take at buf.old) k)) }
+    requires { (20 * rate_of frame.fs_khz ≤ at) × (at + 5 * rate_of frame.fs_khz ≤ 640) × (pitched (rate_of frame.fs_khz) k.pitch_q8 ≡ true) }
+    ensures { voice_of (take (at + 5 * rate_of frame.fs_khz) buf.new) result ≡ faded_voice (rate_of frame.fs_khz) fading.harm_gain_q15 fading.rand_gain_q15
+        (excited_times noise.now 0 (nat_abs (lag_of k.pitch_q8)) (5 * rate_of frame.fs_khz) (voice_of (take at buf.old) k)) }
 {
     let pitch = k.pitch_q8;
     let lag = lag_of(pitch) as usize;
-    let seed = excite(buf, exc, from, k, lag, at, Rate::subfr_length(khz));
+    let seed = excite(buf, noise, k, lag, at, Rate::subfr_length(frame.fs_khz));
     Carried {
-        taps: faded_taps(k.taps, harm_gain_q15),
-        scale_q14: faded(rand_gain_q15, k.scale_q14),
-        pitch_q8: drifted(pitch, pitch_max_q8(khz)),
+        taps: faded_taps(k.taps, fading.harm_gain_q15),
+        scale_q14: faded(fading.rand_gain_q15, k.scale_q14),
+        pitch_q8: drifted(pitch, pitch_max_q8(frame.fs_khz)),
         seed,
     }
 }
 
 // The subframes of a frame, and what they carry on.
 fn subframes(
-    buf: &mut [i32],
-    exc: &[i32],
-    from: usize,
+    buf: &mut [i32; 640],
+    noise: &[i32; 128],
     k0: Carried,
-    khz: i32,
-    n: usize,
-    harm_gain_q15: i32,
-    rand_gain_q15: i32,
+    fading: Fading,
+    frame: FrameShape,
 ) -> Carried
-    requires { (from + 128 ≤ length exc.now) × (8 ≤ rate_of khz) × (n ≤ 4) × (length buf.old ≡ 640)
-        × (pitched (rate_of khz) k0.pitch_q8 ≡ true) }
-    ensures { voice_of (take (20 * rate_of khz + 5 * rate_of khz * n) buf.new) result ≡ voices (shape_at khz n) exc.now from harm_gain_q15 rand_gain_q15 n
-        (voice_of (take (20 * rate_of khz) buf.old) k0) }
+    requires { pitched (rate_of frame.fs_khz) k0.pitch_q8 ≡ true }
+    ensures { voice_of (take (20 * rate_of frame.fs_khz + 5 * rate_of frame.fs_khz * count_of frame.nb_subfr) buf.new) result
+        ≡ voices (shape frame.fs_khz frame.nb_subfr) noise.now 0 fading.harm_gain_q15 fading.rand_gain_q15 (count_of frame.nb_subfr)
+        (voice_of (take (20 * rate_of frame.fs_khz) buf.old) k0) }
 {
-    let mem = Rate::ltp_mem_length(khz);
-    let l = Rate::subfr_length(khz);
+    let mem = Rate::ltp_mem_length(frame.fs_khz);
+    let l = Rate::subfr_length(frame.fs_khz);
+    let n = count_of(frame.nb_subfr);
     let mut k = k0;
     // By index, since each subframe reads the whole buffer before its place.
     for j in 0..n {
         let at = mem + l * j;
-        k = subframe(buf, exc, from, k, khz, at, harm_gain_q15, rand_gain_q15);
+        k = subframe(buf, noise, k, fading, frame, at);
     }
     k
 }
 
-// The frame's samples: the buffer holds its excitation from place mem on. The memory after it.
+// The frame's samples: the buffer holds its excitation behind the history. The memory after it.
 fn synthesise(
-    buf: &mut [i32],
+    buf: &mut [i32; 640],
     memory: [i32; 16],
     a: &[i16; 16],
-    d: usize,
-    mem: usize,
-    len: usize,
+    frame: FrameShape,
     gain_q16: i32,
     xq: &mut [i16],
 ) -> [i32; 16]
-    requires { ((d ≡ 10) ⊎ (d ≡ 16)) × (16 ≤ mem) × (16 ≤ len) × (mem + len ≤ length buf.old) × (mem + len ≤ 640) × (len ≤ length xq.old) }
-    ensures { (result ≡ drop len (synthesis memory (drop mem (take (mem + len) buf.old)) a.now d len))
-        × (xq.new ≡ map (played gain_q16) (drop 16 (synthesis memory (drop mem (take (mem + len) buf.old)) a.now d len)) ++ drop len xq.old) }
+    requires { frame_length (shape frame.fs_khz frame.nb_subfr) ≤ length xq.old }
+    ensures { let r = rate_of frame.fs_khz in
+        let len = 5 * r * count_of frame.nb_subfr in
+        let made = synthesis memory (drop (20 * r) (take (20 * r + len) buf.old)) a.now (order_of r) len in
+        (result ≡ drop len made) × (xq.new ≡ map (played gain_q16) (drop 16 made) ++ drop len xq.old) }
 {
+    let mem = Rate::ltp_mem_length(frame.fs_khz);
+    let len = shape::frame_length(frame.fs_khz, frame.nb_subfr);
     let base = mem - 16;
     let end = mem + len;
     copy_at(buf, base, &memory);
-    synthesis(&mut buf[base..end], a, d);
+    synthesis(&mut buf[base..end], a, frame.order());
     scale_out(&mut xq[..len], &buf[mem..end], gain_q16);
     let mut after = memory;
     copy_at(&mut after, 0, &buf[end - 16..end]);
@@ -344,49 +361,49 @@ fn starting(loss_cnt: i32, prev_signal_type: i32, h: SilkPLCState) -> Carried
     }
 }
 
-fn rewhitened(buf: &mut [i32], out_buf: &[i16], a: &[i16; 16], h: SilkPLCState, khz: i32)
-    requires { (is_rate khz ≡ true) × (length out_buf.now ≡ 480) × (length buf.old ≡ 640) × AllZero buf.old × (pitched (rate_of khz) h.pitch_l_q8 ≡ true) }
-    ensures { (n : ℕ) → take (20 * rate_of khz) buf.new ≡ rewhitened (shape_at khz n) out_buf.now a.now h }
+// Where a frame's noise is drawn from.
+fn place(s: &SilkDecoderState, h: SilkPLCState, frame: FrameShape) -> usize
+    requires { subframes_held (rate_of frame.fs_khz) h.nb_subfr h.subfr_length ≡ true }
+    ensures { result ≡ noise_place (shape frame.fs_khz frame.nb_subfr) s.now h }
 {
-    let lag = lag_of(h.pitch_l_q8) as usize;
-    let mem = Rate::ltp_mem_length(khz);
-    let d = Rate::lpc_order(khz);
-    rewhiten(
-        buf,
-        out_buf,
-        a,
-        d,
-        mem,
-        lag,
-        inverse_gain(h.prev_gain_q16[1]),
-    );
+    noise_place(
+        &s.exc_q14,
+        h.prev_gain_q16,
+        Rate::subfr_length(frame.fs_khz),
+        count_of(frame.nb_subfr),
+        h.nb_subfr as usize,
+        h.subfr_length as usize,
+    )
 }
 
 // The frame's excitation, and what is carried on.
 fn voice(
-    buf: &mut [i32],
-    loss_cnt: i32,
-    prev_signal_type: i32,
-    edition: i32,
-    exc: &[i32],
-    out_buf: &[i16],
-    a: &[i16; 16],
-    from: usize,
+    buf: &mut [i32; 640],
+    s: &SilkDecoderState,
     h: SilkPLCState,
-    khz: i32,
-    n: usize,
+    a: &[i16; 16],
+    frame: FrameShape,
 ) -> Carried
-    requires { (from + 128 ≤ length exc.now) × (is_rate khz ≡ true) × (n ≤ 4) × (length out_buf.now ≡ 480) × (length buf.old ≡ 640)
-        × AllZero buf.old × (pitched (rate_of khz) h.pitch_l_q8 ≡ true) }
-    ensures { voice_of (take (20 * rate_of khz + 5 * rate_of khz * n) buf.new) result
-        ≡ voice_by (shape_at khz n) loss_cnt prev_signal_type edition exc.now out_buf.now a.now from h }
+    requires { AllZero buf.old × (plc_held (rate_of frame.fs_khz) h ≡ true) }
+    ensures { voice_of (take (20 * rate_of frame.fs_khz + 5 * rate_of frame.fs_khz * count_of frame.nb_subfr) buf.new) result
+        ≡ voice_by (shape frame.fs_khz frame.nb_subfr) s.now.loss_cnt s.now.prev_signal_type s.now.settings.edition s.now.exc_q14 s.now.out_buf a.now
+        (noise_place (shape frame.fs_khz frame.nb_subfr) s.now h) h }
 {
-    rewhitened(buf, out_buf, a, h, khz);
-    let k = starting(loss_cnt, prev_signal_type, h);
-    let harm = harm_gain(loss_cnt);
-    let d = Rate::lpc_order(khz);
-    let noise = noise_gain(loss_cnt, prev_signal_type, edition, a, d);
-    subframes(buf, exc, from, k, khz, n, harm, noise)
+    rewhiten(buf, &s.out_buf, a, h, frame);
+    let k = starting(s.loss_cnt, s.prev_signal_type, h);
+    let fading = Fading {
+        harm_gain_q15: harm_gain(s.loss_cnt),
+        rand_gain_q15: noise_gain(
+            s.loss_cnt,
+            s.prev_signal_type,
+            s.settings.edition,
+            a,
+            frame.order(),
+        ),
+    };
+    let from = place(s, h, frame);
+    let noise: &[i32; 128] = s.exc_q14[from..from + 128].try_into().unwrap();
+    subframes(buf, noise, k, fading, frame)
 }
 
 // What concealment holds after a frame.
@@ -412,106 +429,22 @@ pub struct Concealed {
     pub lag: i32,
 }
 
-fn conceal(
-    exc: &[i32],
-    out_buf: &[i16],
-    memory: [i32; 16],
-    a: [i16; 16],
-    loss_cnt: i32,
-    prev_signal_type: i32,
-    edition: i32,
-    h: SilkPLCState,
-    from: usize,
-    khz: i32,
-    n: usize,
-    xq: &mut [i16],
-) -> Concealed
-    requires { (from + 128 ≤ length exc.now) × (is_rate khz ≡ true) × (n ≤ 4) × (length out_buf.now ≡ 480)
-        × (10 * rate_of khz ≤ 5 * rate_of khz * n) × (5 * rate_of khz * n ≤ 20 * rate_of khz) × (5 * rate_of khz * n ≤ length xq.old)
-        × (pitched (rate_of khz) h.pitch_l_q8 ≡ true) }
-    ensures { (result ≡ concealed_by (shape_at khz n) (voice_by (shape_at khz n) loss_cnt prev_signal_type edition exc.now out_buf.now a from h) memory a h)
-        × (xq.new ≡ map (played (later_gain h)) (drop 16 (signal_by (shape_at khz n) (voice_by (shape_at khz n) loss_cnt prev_signal_type edition exc.now out_buf.now a from h) memory a)) ++ drop (5 * rate_of khz * n) xq.old) }
+// A lost frame of a state; h is what concealment holds, ready for the frame's rate.
+fn conceal(s: &SilkDecoderState, h: SilkPLCState, frame: FrameShape, xq: &mut [i16]) -> Concealed
+    requires { (frame_length (shape frame.fs_khz frame.nb_subfr) ≤ length xq.old) × (plc_held (rate_of frame.fs_khz) h ≡ true) }
+    ensures { let p = shape frame.fs_khz frame.nb_subfr in
+        (result ≡ concealed_by p (voice p s.now h) s.now.s_lpc_q14_buf (coefficients p s.now h) h)
+        × (xq.new ≡ concealed p s.now h ++ drop (frame_length p) xq.old) }
 {
+    let a = coefficients(s.first_frame_after_reset, h.prev_lpc_q12, frame.order());
     let mut buf = [0; 640];
-    let k = voice(
-        &mut buf,
-        loss_cnt,
-        prev_signal_type,
-        edition,
-        exc,
-        out_buf,
-        &a,
-        from,
-        h,
-        khz,
-        n,
-    );
-    let after = synthesise(
-        &mut buf,
-        memory,
-        &a,
-        Rate::lpc_order(khz),
-        Rate::ltp_mem_length(khz),
-        Rate::subfr_length(khz) * n,
-        h.prev_gain_q16[1],
-        xq,
-    );
+    let k = voice(&mut buf, s, h, &a, frame);
+    let memory = synthesise(&mut buf, s.s_lpc_q14_buf, &a, frame, h.prev_gain_q16[1], xq);
     Concealed {
         plc: held_after(h, k, a),
-        memory: after,
+        memory,
         lag: lag_of(k.pitch_q8),
     }
-}
-
-// Where a frame's noise is drawn from.
-fn place(exc: &[i32], h: SilkPLCState, khz: i32, n: usize) -> usize
-    requires { (8 ≤ rate_of khz) × (2 ≤ n) × (n ≤ 4) × (length exc.now ≡ 320) × (subframes_held (rate_of khz) h.nb_subfr h.subfr_length ≡ true) }
-    ensures { result ≡ place_from (heard_by (get_or h.prev_gain_q16 0 (pos 0)) (take (5 * rate_of khz) (drop ((0 + n - 2) * (5 * rate_of khz)) exc.now)))
-        (heard_by (get_or h.prev_gain_q16 1 (pos 0)) (take (5 * rate_of khz) (drop ((1 + n - 2) * (5 * rate_of khz)) exc.now))) h.nb_subfr h.subfr_length }
-{
-    noise_place(
-        exc,
-        h.prev_gain_q16,
-        Rate::subfr_length(khz),
-        n,
-        h.nb_subfr as usize,
-        h.subfr_length as usize,
-    )
-}
-
-// A lost frame of a state whose concealment is ready.
-fn conceal_ready(
-    s: SilkDecoderState,
-    h: SilkPLCState,
-    khz: i32,
-    n: usize,
-    xq: &mut [i16],
-) -> Concealed
-    requires { (is_rate khz ≡ true) × (2 ≤ n) × (n ≤ 4) × (10 * rate_of khz ≤ 5 * rate_of khz * n) × (5 * rate_of khz * n ≤ 20 * rate_of khz)
-        × (5 * rate_of khz * n ≤ length xq.old) × (plc_held (rate_of khz) h ≡ true) }
-    ensures { (result ≡ concealed_by (shape_at khz n) (voice (shape_at khz n) s h) s.s_lpc_q14_buf (coefficients (shape_at khz n) s h) h)
-        × (xq.new ≡ concealed (shape_at khz n) s h ++ drop (5 * rate_of khz * n) xq.old) }
-{
-    let a = coefficients(
-        s.first_frame_after_reset,
-        h.prev_lpc_q12,
-        Rate::lpc_order(khz),
-    );
-    let from = place(&s.exc_q14, h, khz, n);
-    conceal(
-        &s.exc_q14,
-        &s.out_buf,
-        s.s_lpc_q14_buf,
-        a,
-        s.loss_cnt,
-        s.prev_signal_type,
-        s.settings.edition,
-        h,
-        from,
-        khz,
-        n,
-        xq,
-    )
 }
 
 // The state after a lost frame.
@@ -538,16 +471,30 @@ fn lagged(c: SilkDecoderControl, lag: i32) -> SilkDecoderControl
     }
 }
 
+// What a lost frame changes of a state beside its count of losses, and its samples.
+pub fn conceal_frame(s: &SilkDecoderState, xq: &mut [i16]) -> Concealed
+    requires { (is_rate s.now.fs_khz ≡ true) × (is_count s.now.nb_subfr ≡ true) × (plc_fits (rate_of s.now.fs_khz) s.now.s_plc ≡ true)
+        × (frame_length (shape_of s.now) ≤ length xq.old) }
+    ensures { let p = shape_of s.now in
+        let h = plc_ready p s.now.s_plc in
+        (result ≡ record { plc = held_after p s.now h; memory = drop (frame_length p) (signal p s.now h); lag = lag_of (voice p s.now h).pitch })
+        × (xq.new ≡ concealed p s.now h ++ drop (frame_length p) xq.old) }
+{
+    let frame = FrameShape {
+        fs_khz: s.fs_khz,
+        nb_subfr: s.nb_subfr,
+    };
+    let h = ready(s.s_plc, s.fs_khz, count_of(s.nb_subfr));
+    conceal(s, h, frame, xq)
+}
+
 pub fn plc_conceal(s: SilkDecoderState, c: SilkDecoderControl, xq: &mut [i16]) -> Answer
     requires { (is_rate s.fs_khz ≡ true) × (is_count s.nb_subfr ≡ true) × (plc_fits (rate_of s.fs_khz) s.s_plc ≡ true)
         × (le_z (pos 0) s.loss_cnt ≡ true) × (eq_ℤ s.loss_cnt (pos 2147483647) ≡ false) × (frame_length (shape_of s) ≤ length xq.old) }
     ensures { (result ≡ record { state = (plc_conceal (shape_of s) s c).state; control = (plc_conceal (shape_of s) s c).control })
         × (xq.new ≡ (plc_conceal (shape_of s) s c).samples ++ drop (frame_length (shape_of s)) xq.old) }
 {
-    let khz = s.fs_khz;
-    let n = count_of(s.nb_subfr);
-    let h = ready(s.s_plc, khz, n);
-    let r = conceal_ready(s, h, khz, n, xq);
+    let r = conceal_frame(&s, xq);
     Answer {
         state: lost_state(s, r),
         control: lagged(c, r.lag),
@@ -562,6 +509,6 @@ pub fn silk_plc_lost(
 ) -> Result<Answer, Refusal>
     ensures { (result ≡ plc_lost s c xq.old) × (xq.new ≡ plc_lost_output s c xq.old) }
 {
-    judge::plc_lost(s, xq.len())?;
+    judge::plc_lost(&s, xq.len())?;
     Ok(plc_conceal(s, c, xq))
 }

@@ -22,6 +22,7 @@ use sigproc::{Energy, silk_sum_sqr_shift, with_front};
 use word::{low16, mul32, sat16, shl32, shr32, wide8};
 
 // If its rate differs, concealment resets.
+// The rate and the count stand apart in this file: a FrameShape would ask callers of the public functions for a rate.
 pub fn ready(h: SilkPLCState, khz: i32, subframes: usize) -> SilkPLCState
     requires { subframes ≤ 4 }
     ensures { result ≡ plc_ready (shape_at khz subframes) h }
@@ -75,7 +76,7 @@ fn older_smaller(old: Energy, new: Energy) -> bool
 
 // 128 samples before the end of k subframes of l samples.
 fn before_end(k: usize, l: usize) -> usize
-    requires { (k ≤ 4) × (l ≤ 80) }
+    requires { k * l ≤ 320 }
     ensures { result ≡ k * l - 128 }
 {
     let n = k * l;
@@ -251,7 +252,7 @@ pub fn received(
     plc_updated(h, khz, nb_subfr, is_voiced(signal), c, rows[1])
 }
 
-// The number of a signal type, in 32 bits.
+// The number of a signal type, in 32 bits. Decoder's `From` is the one to 8 bits, and a call of both in its place is no plainer.
 pub fn type_number(signal: Signal) -> i32
     ensures { result ≡ signal_number signal }
 {
@@ -283,6 +284,6 @@ pub fn silk_plc_received(
 ) -> Result<SilkDecoderState, Refusal>
     ensures { result ≡ plc_received s q c rows }
 {
-    judge::plc_received(s, q, c)?;
+    judge::plc_received(&s, q, &c)?;
     Ok(plc_update(s, q.signal, c, rows))
 }

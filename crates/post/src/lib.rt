@@ -9,11 +9,12 @@ ghost use Rattle.slices.specs.Slices.{slices};
 ghost use Rattle.post.specs.Stages.{set_up_call, frame_call, core_call, plc_received_call, plc_lost_call, glue_call, noise_call};
 
 use decoder::Settings;
-use layout::frame::{short_call, short_frame};
+use layout::frame::{CoefNumbers, FrameNumbers, FrameSlices, short_call, short_frame};
 use layout::short_state;
+use layout::state::StateSlices;
 use refusal::code;
 
-#[tactic(auto, unfolding(crate::specs::Stages::set_up_call, crate::specs::Calls::called))]
+#[tactic(auto, using(layout::proofs::Slices::state_long), unfolding(crate::specs::Stages::set_up_call, crate::specs::Calls::called))]
 fn set_up(
     rate: i32,
     subframes: i32,
@@ -27,7 +28,8 @@ fn set_up(
     if short_state(words.len(), halves.len()) {
         return -1;
     }
-    code(stages::set_up(rate, subframes, settings, words, halves))
+    let mut state = StateSlices { words, halves };
+    code(stages::set_up(rate, subframes, settings, &mut state))
 }
 
 // Set-up with the default settings.
@@ -54,7 +56,7 @@ pub fn post_set_up_with(
     set_up(rate, subframes, settings, words, halves)
 }
 
-#[tactic(auto, unfolding(crate::specs::Stages::frame_call, crate::specs::Calls::called))]
+#[tactic(auto, using(layout::proofs::Slices::call_long), unfolding(crate::specs::Stages::frame_call, crate::specs::Calls::called))]
 pub fn post_frame(
     words: &mut [i32],
     halves: &mut [i16],
@@ -69,7 +71,12 @@ pub fn post_frame(
     if short_call(words.len(), halves.len(), frame.len(), coefs.len()) {
         return -1;
     }
-    code(slices::play_frame(words, halves, frame, coefs, pulses, output))
+    let mut state = StateSlices { words, halves };
+    let mut frame = FrameSlices {
+        numbers: frame,
+        coefs,
+    };
+    code(slices::play_frame(&mut state, &mut frame, pulses, output))
 }
 
 pub fn post_played(rate: i32, subframes: i32, output: &[i16]) -> i32
@@ -79,7 +86,7 @@ pub fn post_played(rate: i32, subframes: i32, output: &[i16]) -> i32
     part.len() as i32
 }
 
-#[tactic(auto, unfolding(crate::specs::Stages::core_call, crate::specs::Calls::called))]
+#[tactic(auto, using(layout::proofs::Slices::call_long), unfolding(crate::specs::Stages::core_call, crate::specs::Calls::called))]
 pub fn post_core(
     words: &mut [i32],
     halves: &mut [i16],
@@ -94,10 +101,15 @@ pub fn post_core(
     if short_call(words.len(), halves.len(), frame.len(), coefs.len()) {
         return -1;
     }
-    code(stages::core(words, halves, frame, coefs, pulses, output))
+    let mut state = StateSlices { words, halves };
+    let mut frame = FrameSlices {
+        numbers: frame,
+        coefs,
+    };
+    code(stages::core(&mut state, &mut frame, pulses, output))
 }
 
-#[tactic(auto, unfolding(crate::specs::Stages::plc_received_call, crate::specs::Calls::called))]
+#[tactic(auto, using(layout::proofs::Slices::call_long), unfolding(crate::specs::Stages::plc_received_call, crate::specs::Calls::called))]
 pub fn post_plc_received(words: &mut [i32], halves: &mut [i16], frame: &[i32], coefs: &[i16]) -> i32
     ensures { record { answer = result; after = slices words.new halves.new frame.now coefs.now [] [] }
         ≡ plc_received_call (slices words.old halves.old frame.now coefs.now [] []) }
@@ -105,10 +117,13 @@ pub fn post_plc_received(words: &mut [i32], halves: &mut [i16], frame: &[i32], c
     if short_call(words.len(), halves.len(), frame.len(), coefs.len()) {
         return -1;
     }
-    code(stages::plc_received(words, halves, frame, coefs))
+    let mut state = StateSlices { words, halves };
+    let frame = FrameNumbers { numbers: frame };
+    let coefs = CoefNumbers { coefs };
+    code(stages::plc_received(&mut state, frame, coefs))
 }
 
-#[tactic(auto, unfolding(crate::specs::Stages::plc_lost_call, crate::specs::Calls::called))]
+#[tactic(auto, using(layout::proofs::Slices::frame_long), unfolding(crate::specs::Stages::plc_lost_call, crate::specs::Calls::called))]
 pub fn post_plc_lost(
     words: &mut [i32],
     halves: &mut [i16],
@@ -121,10 +136,11 @@ pub fn post_plc_lost(
     if short_frame(words.len(), halves.len(), frame.len()) {
         return -1;
     }
-    code(stages::plc_lost(words, halves, frame, output))
+    let mut state = StateSlices { words, halves };
+    code(stages::plc_lost(&mut state, frame, output))
 }
 
-#[tactic(auto, unfolding(crate::specs::Stages::glue_call, crate::specs::Calls::called))]
+#[tactic(auto, using(layout::proofs::Slices::state_long), unfolding(crate::specs::Stages::glue_call, crate::specs::Calls::called))]
 pub fn post_glue(words: &mut [i32], halves: &mut [i16], buffer: &mut [i16], n: usize) -> i32
     ensures { record { answer = result; after = slices words.new halves.new [] [] [] buffer.new }
         ≡ glue_call n (slices words.old halves.old [] [] [] buffer.old) }
@@ -132,10 +148,11 @@ pub fn post_glue(words: &mut [i32], halves: &mut [i16], buffer: &mut [i16], n: u
     if short_state(words.len(), halves.len()) {
         return -1;
     }
-    code(stages::glue(words, halves, buffer, n))
+    let mut state = StateSlices { words, halves };
+    code(stages::glue(&mut state, buffer, n))
 }
 
-#[tactic(auto, unfolding(crate::specs::Stages::noise_call, crate::specs::Calls::called))]
+#[tactic(auto, using(layout::proofs::Slices::frame_long), unfolding(crate::specs::Stages::noise_call, crate::specs::Calls::called))]
 pub fn post_noise(
     words: &mut [i32],
     halves: &mut [i16],
@@ -149,5 +166,7 @@ pub fn post_noise(
     if short_frame(words.len(), halves.len(), frame.len()) {
         return -1;
     }
-    code(stages::noise(words, halves, frame, buffer, n))
+    let mut state = StateSlices { words, halves };
+    let frame = FrameNumbers { numbers: frame };
+    code(stages::noise(&mut state, frame, buffer, n))
 }

@@ -24,7 +24,7 @@ pub fn post_stability(coefficients: &[i16], order: usize, edition: i32, answer: 
             answer[1] = answer_value(s);
             0
         }
-        Err(refusal) => i32::from(refusal.number()),
+        Err(refusal) => code(Err(refusal)),
     }
 }
 
@@ -40,7 +40,7 @@ pub fn post_sentence(coefficients: &[i16], order: usize, edition: i32, text: &mu
             text[..64].copy_from_slice(&sentence.letters);
             0
         }
-        Err(refusal) => i32::from(refusal.number()),
+        Err(refusal) => code(Err(refusal)),
     }
 }
 
@@ -61,7 +61,7 @@ pub fn post_cosine(place: usize, value: &mut [i32]) -> i32
             value[0] = i32::from(cosine);
             0
         }
-        Err(refusal) => i32::from(refusal.number()),
+        Err(refusal) => code(Err(refusal)),
     }
 }
 
@@ -76,7 +76,7 @@ pub fn post_rising(lines: &[i16], order: usize, answer: &mut [i32]) -> i32
             answer[0] = i32::from(rising);
             0
         }
-        Err(refusal) => i32::from(refusal.number()),
+        Err(refusal) => code(Err(refusal)),
     }
 }
 

@@ -1,7 +1,7 @@
 // The functions of a load, which crate `post_load_c` exports for a Rust or C program. A contract is one equation: the answer and the slices at exit are those of the call's definition.
 #![tactic(auto)]
 
-ghost use Rattle.std.specs.Prelude.{◌≡◌, ◌≤◌, length};
+ghost use Rattle.std.specs.Prelude.{◌≡◌, false, length};
 ghost use Rattle.generator.specs.Draws.{drawn};
 ghost use Rattle.generator.specs.Leaps.{undoing};
 ghost use Rattle.post_load.specs.Calls.{called, short_load, framed, coefficiented, pulsed, load_frame_call};
@@ -23,6 +23,7 @@ fn short_load(frame: usize, coefs: usize, pulses: usize) -> bool
 }
 
 // The frame whose draws follow x, put into the slices.
+#[tactic(auto, using(crate::proofs::Ends::long))]
 fn put_load(
     rate: i32,
     subframes: i32,
@@ -31,7 +32,7 @@ fn put_load(
     coefs: &mut [i16],
     pulses: &mut [i16],
 )
-    requires { (16 ≤ length frame.old) × (68 ≤ length coefs.old) × (320 ≤ length pulses.old) }
+    requires { short_load (length frame.old) (length coefs.old) (length pulses.old) ≡ false }
     ensures { (frame.new ≡ framed rate subframes x frame.old)
         × (coefs.new ≡ coefficiented rate x coefs.old)
         × (pulses.new ≡ pulsed x pulses.old) }

@@ -1,5 +1,5 @@
 -- The fields of a frame's 817 bytes, by their places; a lost frame's are zeros.
-use Rattle.std.specs.Prelude.{ℕ, cond, List, [], ◌∷◌, eqb, ℤ, get_or}
+use Rattle.std.specs.Prelude.{ℕ, Bool, cond, List, [], ◌∷◌, eqb, ℤ, get_or}
 use Rattle.decoder.specs.Signals.{signal_of}
 use Rattle.decoder.specs.declared.Params.{Params}
 use Rattle.decoder.specs.declared.Frame.{Frame}
@@ -13,8 +13,11 @@ params_in b =
     record { signal = signal_of (signed_at w8 b 1); quant_offset_type = signed_at w8 b 2; nlsf_interp_coef_q2 = signed_at w8 b 3; seed = signed_at w8 b 4 }
 
 -- byte 0 is 1 where the frame was received
+abbrev pub is_received : List ℕ → Bool
+is_received b = eqb (get_or b 0 0) 1
+
 unfoldable pub frame_in : List ℕ → Frame
-frame_in b = cond (eqb (get_or b 0 0) 1) (Received (params_in b)) Lost
+frame_in b = cond (is_received b) (Received (params_in b)) Lost
 
 unfoldable pub control_in : List ℕ → SilkDecoderControl
 control_in b =

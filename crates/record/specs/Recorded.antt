@@ -1,20 +1,20 @@
 -- A frame as it is recorded, and its bytes.
-use Rattle.std.specs.Prelude.{ℕ, cond, List, [], ◌∷◌, ◌++◌, eqb, ℤ, get_or, replicate}
+use Rattle.std.specs.Prelude.{ℕ, cond, List, [], ◌∷◌, ◌++◌, ℤ, get_or, replicate}
 use Rattle.std.specs.Int.{w16, w32}
 use Rattle.le.specs.Bytes.{bytes_of, packed, joined}
 use Rattle.decoder.specs.Signals.{signal_number}
 use Rattle.decoder.specs.declared.Params.{Params}
 use Rattle.decoder.specs.declared.SilkDecoderControl.{SilkDecoderControl}
-use Rattle.record.specs.Record.{params_in, control_in, rows_in, lines_in, pulses_in}
+use Rattle.record.specs.Record.{is_received, params_in, control_in, rows_in, lines_in, pulses_in}
 
 -- a lost frame brings nothing, a received one its small numbers, description, coefficient rows, lines and pulses
 pub data Recorded : Type 0 where
   lost : Recorded
   received : Params → SilkDecoderControl → List (List ℤ) → List ℤ → List ℤ → Recorded
 
--- the frame that bytes hold: byte 0 is 1 where it was received
+-- the frame that bytes hold
 unfoldable pub recorded_in : List ℕ → Recorded
-recorded_in b = cond (eqb (get_or b 0 0) 1) (received (params_in b) (control_in b) (rows_in b) (lines_in b) (pulses_in b)) lost
+recorded_in b = cond (is_received b) (received (params_in b) (control_in b) (rows_in b) (lines_in b) (pulses_in b)) lost
 
 -- the kind and the small numbers of a received frame, a byte each
 abbrev pub small_bytes : Params → List ℕ

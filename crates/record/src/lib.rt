@@ -5,68 +5,83 @@
 ghost use Rattle.std.specs.Prelude.{◌≡◌, ◌+◌, ◌≤◌, length};
 ghost use Rattle.std.specs.Int.{w16};
 ghost use Rattle.le.specs.Bytes.{packed, with_bytes};
-ghost use Rattle.record.specs.Record.{params_in, frame_in, control_in, rows_in, lines_in, pulses_in};
+ghost use Rattle.record.specs.Record.{is_received, params_in, frame_in, control_in, rows_in, lines_in, pulses_in};
 ghost use Rattle.record.specs.Recorded.{received, small_bytes, record_bytes};
 ghost use Rattle.record.specs.Claims.{WrittenIsRead, ReadIsWritten};
 
 use decoder::{Frame, Params, Signal, SilkDecoderControl};
 use le::{Word, put_bytes, put_words, words_at};
 
-pub fn params_in(b: &[u8]) -> Params
-    requires { 817 ≤ length b.now }
-    ensures { result ≡ params_in b.now }
-{
-    let signal = Signal::from(i8::at(b, 1));
-    Params {
-        signal,
-        quant_offset_type: i8::at(b, 2),
-        nlsf_interp_coef_q2: i8::at(b, 3),
-        seed: i8::at(b, 4),
+// The count of a record's bytes.
+pub const SIZE: usize = 817;
+
+// A view of them; what is behind them is not read.
+#[derive(Clone, Copy)]
+pub struct Record<'a> {
+    pub bytes: &'a [u8],
+    pub ghost whole: { 817 ≤ length bytes.now },
+}
+
+impl Record<'_> {
+    pub fn params(&self) -> Params
+        ensures { result ≡ params_in self.now.bytes.now }
+    {
+        let b = self.bytes;
+        let signal = Signal::from(i8::at(b, 1));
+        Params {
+            signal,
+            quant_offset_type: i8::at(b, 2),
+            nlsf_interp_coef_q2: i8::at(b, 3),
+            seed: i8::at(b, 4),
+        }
     }
-}
 
-// A record's frame, and what stands beside it.
-pub fn frame_in(b: &[u8]) -> Frame
-    requires { 817 ≤ length b.now }
-    ensures { result ≡ frame_in b.now }
-{
-    if b[0] == 1 {
-        return Frame::Received(params_in(b));
+    pub fn is_received(&self) -> bool
+        ensures { result ≡ is_received self.now.bytes.now }
+    {
+        self.bytes[0] == 1
     }
-    Frame::Lost
-}
 
-pub fn control_in(b: &[u8]) -> SilkDecoderControl
-    requires { 817 ≤ length b.now }
-    ensures { result ≡ control_in b.now }
-{
-    SilkDecoderControl {
-        pitch_l: words_at(b, 5),
-        gains_q16: words_at(b, 21),
-        ltp_coef_q14: words_at(b, 101),
-        ltp_scale_q14: i32::at(b, 141),
+    #[tactic(auto, unfolding(crate::specs::Record::frame_in))]
+    pub fn frame(&self) -> Frame
+        ensures { result ≡ frame_in self.now.bytes.now }
+    {
+        if self.is_received() {
+            return Frame::Received(self.params());
+        }
+        Frame::Lost
     }
-}
 
-pub fn rows_in(b: &[u8]) -> [[i16; 16]; 2]
-    requires { 817 ≤ length b.now }
-    ensures { result ≡ rows_in b.now }
-{
-    [words_at(b, 37), words_at(b, 69)]
-}
+    pub fn control(&self) -> SilkDecoderControl
+        ensures { result ≡ control_in self.now.bytes.now }
+    {
+        let b = self.bytes;
+        SilkDecoderControl {
+            pitch_l: words_at(b, 5),
+            gains_q16: words_at(b, 21),
+            ltp_coef_q14: words_at(b, 101),
+            ltp_scale_q14: i32::at(b, 141),
+        }
+    }
 
-pub fn lines_in(b: &[u8]) -> [i16; 16]
-    requires { 817 ≤ length b.now }
-    ensures { result ≡ lines_in b.now }
-{
-    words_at(b, 145)
-}
+    // The coefficient rows.
+    pub fn rows(&self) -> [[i16; 16]; 2]
+        ensures { result ≡ rows_in self.now.bytes.now }
+    {
+        [words_at(self.bytes, 37), words_at(self.bytes, 69)]
+    }
 
-pub fn pulses_in(b: &[u8]) -> [i16; 320]
-    requires { 817 ≤ length b.now }
-    ensures { result ≡ pulses_in b.now }
-{
-    words_at(b, 177)
+    pub fn lines(&self) -> [i16; 16]
+        ensures { result ≡ lines_in self.now.bytes.now }
+    {
+        words_at(self.bytes, 145)
+    }
+
+    pub fn pulses(&self) -> [i16; 320]
+        ensures { result ≡ pulses_in self.now.bytes.now }
+    {
+        words_at(self.bytes, 177)
+    }
 }
 
 // The kind and the small numbers of a received frame.
@@ -86,6 +101,7 @@ fn put_small(to: &mut [u8], at: usize, q: Params)
 }
 
 // A row of coefficients, stored from place at on.
+#[tactic(auto, using(le::proofs::Packing::packed_all))]
 fn put_row(to: &mut [u8], at: usize, row: [i16; 16])
     requires { at + 32 ≤ length to.old }
     ensures { to.new ≡ with_bytes to.old at (packed w16 row 16) }
@@ -93,7 +109,7 @@ fn put_row(to: &mut [u8], at: usize, row: [i16; 16])
     put_words(to, at, &row);
 }
 
-// A received frame's bytes, stored from place at on.
+// A received frame's bytes, stored from place at on. Document 01 has a frame's parts beside one another, and so has each caller.
 pub fn put_received(
     to: &mut [u8],
     at: usize,

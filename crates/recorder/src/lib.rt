@@ -8,10 +8,9 @@ ghost use Rattle.refusal.specs.First.{first_of};
 ghost use Rattle.record.specs.Recorded.{lost, received};
 ghost use Rattle.recorder.specs.Writing.{head_bytes, frame_bytes, has_room, head_rows, begin_refusal, begin_of, append_of};
 
-use chain::wide8;
 use decoder::{Params, SilkDecoderControl, equals};
 use judge::description;
-use le::{Word, low_byte, put_bytes, put_zeros, signed_byte};
+use le::{Word, low_byte, put_bytes, put_zeros};
 use record::put_received;
 use recording::{MARK, is_head};
 use refusal::{Refusal, refuse_if};
@@ -61,11 +60,11 @@ fn head_rows(bytes: &[u8], rate: i32, subframes: i32) -> Result<(), Refusal>
 {
     refuse_if(!is_head(bytes), Refusal::Record)?;
     refuse_if(
-        !(shape::is_rate(signed_byte(bytes[6])) & equals(rate, wide8(bytes[6]))),
+        !(shape::is_rate(i32::from(bytes[6])) & equals(rate, usize::from(bytes[6]))),
         Refusal::Rate,
     )?;
     refuse_if(
-        !(shape::is_count(signed_byte(bytes[7])) & equals(subframes, wide8(bytes[7]))),
+        !(shape::is_count(i32::from(bytes[7])) & equals(subframes, usize::from(bytes[7]))),
         Refusal::Size,
     )
 }
@@ -94,7 +93,7 @@ pub fn append_lost(
     Ok(())
 }
 
-// A received frame's record, the last.
+// A received frame's record, the last. Document 01 has a frame's parts beside one another.
 fn put_frame(
     bytes: &mut [u8],
     at: usize,
@@ -112,7 +111,7 @@ fn put_frame(
     put_zeros(bytes, at + 819, 205);
 }
 
-// One received frame more.
+// One received frame more, by its parts as document 01 has them.
 pub fn append_received(
     bytes: &mut [u8],
     frames: usize,
@@ -131,7 +130,7 @@ pub fn append_received(
         Refusal::Record,
     )?;
     head_rows(bytes, rate, subframes)?;
-    description(rate, subframes, q, c, lines)?;
+    description(rate, subframes, q, &c, &lines)?;
     link(bytes, frames);
     put_frame(bytes, 1024 * (frames + 1), q, c, rows, lines, pulses);
     Ok(())

@@ -1,6 +1,6 @@
 -- What is read of a recording, refused or not.
 use Prim.Native.Nat.{ℕ, ◌≤◌, ◌<◌}
-use mathlib.Core.Path.{◌≡◌, refl, sym, ap, ◌∙◌}
+use mathlib.Core.Path.{◌≡◌, refl, sym, ap}
 use mathlib.Core.Bool.{Bool, true, false, not, ◌&&◌, false≢true}
 use mathlib.Core.List.{List, [], ◌∷◌}
 use native.Mathlib.Omega.{arith}
@@ -11,7 +11,7 @@ use Rattle.refusal.specs.First.{◌gives◌, first_of}
 use Rattle.refusal.specs.Refusals.{Judged, code_of}
 use Rattle.refusal.specs.declared.Refusal.{Refusal}
 use Rattle.refusal.specs.declared.Refusal.TheVariants.{Rate, Size, Chain, Record}
-use Rattle.refusal.proofs.Clear.{clear, answered_err, answered_ok}
+use Rattle.refusal.proofs.Clear.{answered_err, answered_ok}
 use Rattle.shape.specs.Shape.{shape, is_rate, is_count}
 use Rattle.chain.specs.Chain.{is_whole, records_in, chain_of, is_broken, on_chain, padded}
 use Rattle.chain.proofs.Steps.{whole}
@@ -19,7 +19,7 @@ use Rattle.chain.proofs.Records.{Chained, chained, padded-length, padded-below}
 use Rattle.recording.specs.Frames.{is_head, are_frames, rate_in, count_in, frames_in, described_all, Inside}
 use Rattle.recording.specs.Rows.{first_then}
 use Rattle.recording.specs.Reading.{read_refusal, read_of}
-use Rattle.recording.proofs.Rows.{clear_then, then_err}
+use Rattle.recording.proofs.Rows.{clear_then, row_met, row-unmet}
 
 both : (a b : Bool) → (a && b) ≡ true → (a ≡ true) × (b ≡ true)
 both true b e = (refl, e)
@@ -32,15 +32,12 @@ module _ (b : List ℕ) where
 
   -- the same, as a call judges the length
   module _ {q : Judged} {w : Bool} (j : q ≡ first_of ((not w gives Record) ∷ [])) (l : w ≡ is_whole (length b)) where
-    length-row : q ≡ first_of ((not (is_whole (length b)) gives Record) ∷ [])
-    length-row = j ∙ ap (λ (x : Bool). first_of ((not x gives Record) ∷ [])) l
-
     pub stops : {e : Refusal} → q ≡ Err e → read_refusal b ≡ Err e
     unfolding read_refusal
-    stops h = then_err (not (is_whole (length b)) gives Record) _ _ (sym length-row ∙ h)
+    stops h = row_met Record j (ap not l) _ _ h
 
     pub passes : q ≡ Ok tt → is_whole (length b) ≡ true
-    passes h = not-false (is_whole (length b)) (clear ((not (is_whole (length b)) gives Record) ∷ []) (ap code_of (sym length-row ∙ h))).0
+    passes h = not-false (is_whole (length b)) (row-unmet Record j (ap not l) h)
 
   pub is_broken_lem : is_whole (length b) ≡ true → is_broken (chain_of b) ≡ true → read_refusal b ≡ Err Chain
   unfolding read_refusal first_then

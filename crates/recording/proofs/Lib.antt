@@ -2,3 +2,4 @@
 pub mod Rows
 pub mod Back
 pub mod Answers
+pub mod Accepted

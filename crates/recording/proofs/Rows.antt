@@ -56,15 +56,27 @@ run_err rows other h = rw (then_is rows other, h) refl
 pub run_ok : (rows : List Row) (other : Judged) → first_of rows ≡ Ok tt → first_then rows other ≡ other
 run_ok rows other h = rw (then_is rows other, h) refl
 
+-- a row as a step judged it, where x is what its test means
+module _ {q : Judged} (r : Refusal) {b x : Bool} (h : q ≡ first_of ((b gives r) ∷ [])) (k : b ≡ x) where
+  judged : q ≡ first_of ((x gives r) ∷ [])
+  judged = h ∙ ap (λ (z : Bool). first_of ((z gives r) ∷ [])) k
+
+  pub row_met : {e : Refusal} (rs : List Row) (other : Judged) → q ≡ Err e → first_then ((x gives r) ∷ rs) other ≡ Err e
+  row_met rs other g = then_err (x gives r) rs other (sym judged ∙ g)
+
+  pub row-unmet : q ≡ Ok tt → x ≡ false
+  row-unmet g = (clear ((x gives r) ∷ []) (ap code_of (sym judged ∙ g))).0
+
+  pub row_past : (rs : List Row) (other : Judged) → q ≡ Ok tt → first_then ((x gives r) ∷ rs) other ≡ first_then rs other
+  row_past rs other g = then_ok (x gives r) rs other (sym judged ∙ g)
+
 -- rows that `?` joins: q is what a step judged, t what the function gives back
 module _ {t q : Judged} where
   pub row_stops : {e : Refusal} (r : Refusal) (rs : List Row) (other : Judged) {b x : Bool} → q ≡ first_of ((b gives r) ∷ []) → b ≡ x → q ≡ Err e → IsErrAnd t (λ y. y ≡ e) → t ≡ first_then ((x gives r) ∷ rs) other
-  row_stops r rs other {b} {x} h k g u =
-      at_err t _ u ∙ sym (then_err (x gives r) rs other (ap (λ (z : Bool). first_of ((z gives r) ∷ [])) (sym k) ∙ sym h ∙ g))
+  row_stops r rs other h k g u = at_err t _ u ∙ sym (row_met r h k rs other g)
 
   pub row_passes : (r : Refusal) (rs : List Row) (other : Judged) {b x : Bool} → q ≡ first_of ((b gives r) ∷ []) → b ≡ x → q ≡ Ok tt → t ≡ first_then rs other → t ≡ first_then ((x gives r) ∷ rs) other
-  row_passes r rs other {b} {x} h k g u =
-      u ∙ sym (then_ok (x gives r) rs other (ap (λ (z : Bool). first_of ((z gives r) ∷ [])) (sym k) ∙ sym h ∙ g))
+  row_passes r rs other h k g u = u ∙ sym (row_past r h k rs other g)
 
 -- and the last of them
 pub rows_pass : {t : Judged} (other : Judged) → t ≡ other → t ≡ first_then [] other

@@ -2,25 +2,45 @@
 // Inner: every function but read.
 #![tactic(auto)]
 
-ghost use Rattle.std.specs.Prelude.{◌≡◌, map, not, ◌&&◌, [], ◌∷◌, ◌+◌, ◌*◌, ◌≤◌, ◌<◌, length};
+ghost use Rattle.std.specs.Prelude.{◌≡◌, Ok, map, not, ◌&&◌, [], ◌∷◌, ◌+◌, ◌*◌, ◌≤◌, length, drop};
 ghost use Rattle.refusal.specs.First.{◌gives◌};
-ghost use Rattle.refusal.specs.declared.Refusal.TheVariants.{Rate, Size, Record};
 ghost use Rattle.shape.specs.Shape.{shape, is_rate, is_count};
 ghost use Rattle.record.specs.Recorded.{recorded_in};
 ghost use Rattle.recording.specs.Rows.{first_then};
-ghost use Rattle.recording.specs.Frames.{zeros, is_head, is_frame, are_frames, recorded_at, described, described_all, Inside};
+ghost use Rattle.recording.specs.Frames.{zeros, is_head, is_frame, are_frames, recorded_at, frames_in, described, described_all, Inside};
 ghost use Rattle.recording.specs.Reading.{read_of};
 
-use chain::{chain, is_whole, wide8};
+use chain::{chain, is_whole};
 use judge::description;
-use le::{signed_byte, stands_at};
-use record::{control_in, lines_in, params_in};
+use le::stands_at;
+use record::Record;
 use refusal::{Refusal, earlier, refuse_if};
 
 // The mark of record 0, behind its next number.
 pub const MARK: [u8; 4] = *b"YARD";
 
-// What is read of a recording: the first `frames` records are those of its frames, in order.
+// The frames of a recording: all its bytes, and the frames' records in order.
+#[derive(Clone, Copy)]
+pub struct Frames<'a> {
+    pub bytes: &'a [u8],
+    pub records: &'a [u8],
+    pub ghost inside: { Inside bytes.now records.now },
+}
+
+impl<'a> Frames<'a> {
+    // The frame of record i.
+    pub fn record(&self, i: u8) -> Record<'a>
+        requires { 1024 * i + 1024 ≤ length self.now.bytes.now }
+        ensures { result.bytes.now ≡ drop (1024 * i + 2) self.now.bytes.now }
+    {
+        let at = 1024 * usize::from(i) + 2;
+        Record {
+            bytes: &self.bytes[at..],
+        }
+    }
+}
+
+// What is read of a recording: the first `frames` records are those of its frames, in order. No heap: an array of the most records that there are.
 #[derive(Clone, Copy)]
 pub struct Recording {
     pub rate: i32,
@@ -29,6 +49,21 @@ pub struct Recording {
     pub records: [u8; 60],
 }
 
+impl Recording {
+    // The frames in the bytes that it was read of.
+    #[tactic(auto, using(crate::proofs::Accepted::few))]
+    pub fn frames_in<'a>(&'a self, bytes: &'a [u8]) -> Frames<'a>
+        requires { read_of bytes.now ≡ Ok self.now }
+        ensures { (result.bytes.now ≡ bytes.now) × (map (recorded_at bytes.now) result.records.now ≡ frames_in bytes.now) × (length result.records.now ≡ self.now.frames) }
+    {
+        Frames {
+            bytes,
+            records: &self.records[..self.frames],
+        }
+    }
+}
+
+// The library's `all` under the definition's name: three tests call it.
 fn zeros(bytes: &[u8], at: usize, n: usize) -> bool
     requires { at + n ≤ length bytes.now }
     ensures { result ≡ zeros bytes.now at n }
@@ -44,11 +79,12 @@ pub fn is_head(bytes: &[u8]) -> bool
     stands_at(bytes, 2, &MARK) & zeros(bytes, 8, 1016)
 }
 
-fn is_frame(bytes: &[u8], i: usize) -> bool
-    requires { (i < 256) × (1024 * i + 1024 ≤ length bytes.now) }
+#[tactic(auto, unfolding(crate::specs::Frames::is_frame))]
+fn is_frame(bytes: &[u8], i: u8) -> bool
+    requires { 1024 * i + 1024 ≤ length bytes.now }
     ensures { result ≡ is_frame bytes.now i }
 {
-    let at = 1024 * i + 2;
+    let at = 1024 * usize::from(i) + 2;
     if bytes[at] == 1 {
         zeros(bytes, at + 817, 205)
     } else {
@@ -57,61 +93,56 @@ fn is_frame(bytes: &[u8], i: usize) -> bool
 }
 
 // The last of the records first.
-fn are_frames(bytes: &[u8], records: &[u8]) -> bool
-    requires { Inside bytes.now records.now }
-    ensures { result ≡ are_frames bytes.now records.now }
+fn are_frames(frames: &Frames) -> bool
+    ensures { result ≡ are_frames frames.now.bytes.now frames.now.records.now }
 {
     let mut ok = true;
-    for i in records.iter().rev() {
-        ok = is_frame(bytes, wide8(*i)) & ok;
+    for i in frames.records.iter().rev() {
+        ok = is_frame(frames.bytes, *i) & ok;
     }
     ok
 }
 
-// Rows 5 to 9 of a frame's bytes.
-fn described_in(khz: i32, nb_subfr: i32, b: &[u8]) -> Result<(), Refusal>
-    requires { 817 ≤ length b.now }
-    ensures { result ≡ described (shape khz nb_subfr) (recorded_in b.now) }
+// Rows 5 to 9 of a frame.
+#[tactic(auto, unfolding(crate::specs::Frames::described, record::specs::Recorded::recorded_in))]
+fn described(khz: i32, nb_subfr: i32, record: &Record) -> Result<(), Refusal>
+    ensures { result ≡ described (shape khz nb_subfr) (recorded_in record.now.bytes.now) }
 {
-    if b[0] != 1 {
-        return Ok(());
+    if record.is_received() {
+        return description(
+            khz,
+            nb_subfr,
+            record.params(),
+            &record.control(),
+            &record.lines(),
+        );
     }
-    description(khz, nb_subfr, params_in(b), control_in(b), lines_in(b))
-}
-
-fn described(khz: i32, nb_subfr: i32, bytes: &[u8], i: usize) -> Result<(), Refusal>
-    requires { (i < 256) × (1024 * i + 1024 ≤ length bytes.now) }
-    ensures { result ≡ described (shape khz nb_subfr) (recorded_at bytes.now i) }
-{
-    let at = 1024 * i + 2;
-    described_in(khz, nb_subfr, &bytes[at..])
+    Ok(())
 }
 
 // The last of the records first.
-fn described_all(khz: i32, nb_subfr: i32, bytes: &[u8], records: &[u8]) -> Result<(), Refusal>
-    requires { Inside bytes.now records.now }
-    ensures { result ≡ described_all (shape khz nb_subfr) (map (recorded_at bytes.now) records.now) }
+fn described_all(khz: i32, nb_subfr: i32, frames: &Frames) -> Result<(), Refusal>
+    ensures { result ≡ described_all (shape khz nb_subfr) (map (recorded_at frames.now.bytes.now) frames.now.records.now) }
 {
     let mut worst = Ok(());
-    for i in records.iter().rev() {
-        worst = earlier(described(khz, nb_subfr, bytes, wide8(*i)), worst);
+    for i in frames.records.iter().rev() {
+        worst = earlier(described(khz, nb_subfr, &frames.record(*i)), worst);
     }
     worst
 }
 
 // The rows behind the chain.
-fn content(rate: i32, subframes: i32, bytes: &[u8], records: &[u8]) -> Result<(), Refusal>
-    requires { (1024 ≤ length bytes.now) × Inside bytes.now records.now }
-    ensures { result ≡ first_then ((not (is_head bytes.now && are_frames bytes.now records.now) gives Record) ∷ (not (is_rate rate) gives Rate) ∷ (not (is_count subframes) gives Size) ∷ [])
-        (described_all (shape rate subframes) (map (recorded_at bytes.now) records.now)) }
+fn content(rate: i32, subframes: i32, frames: &Frames) -> Result<(), Refusal>
+    ensures { result ≡ first_then ((not (is_head frames.now.bytes.now && are_frames frames.now.bytes.now frames.now.records.now) gives Refusal.Record) ∷ (not (is_rate rate) gives Refusal.Rate) ∷ (not (is_count subframes) gives Refusal.Size) ∷ [])
+        (described_all (shape rate subframes) (map (recorded_at frames.now.bytes.now) frames.now.records.now)) }
 {
     refuse_if(
-        !(is_head(bytes) & are_frames(bytes, records)),
+        !(is_head(frames.bytes) & are_frames(frames)),
         Refusal::Record,
     )?;
     refuse_if(!shape::is_rate(rate), Refusal::Rate)?;
     refuse_if(!shape::is_count(subframes), Refusal::Size)?;
-    described_all(rate, subframes, bytes, records)
+    described_all(rate, subframes, frames)
 }
 
 pub fn read(bytes: &[u8]) -> Result<Recording, Refusal>
@@ -121,9 +152,13 @@ pub fn read(bytes: &[u8]) -> Result<Recording, Refusal>
     let order = chain(bytes).ok_or(Refusal::Chain)?;
     let records = order.records;
     let frames = order.frames;
-    let rate = signed_byte(bytes[6]);
-    let subframes = signed_byte(bytes[7]);
-    content(rate, subframes, bytes, &records[..frames])?;
+    let rate = i32::from(bytes[6]);
+    let subframes = i32::from(bytes[7]);
+    let along = Frames {
+        bytes,
+        records: &records[..frames],
+    };
+    content(rate, subframes, &along)?;
     Ok(Recording {
         rate,
         subframes,

@@ -9,6 +9,7 @@ pub fn written_is_read()
 {}
 
 // A read file whose chain takes all its records in order is written back as the same bytes.
+#[tactic(auto, using(crate::proofs::Writing::read_again))]
 pub fn read_is_written()
     ensures { ReadIsWritten }
 {}

@@ -171,12 +171,12 @@ impl Case {
     // A whole frame with the rate and the count of subframes that it brings.
     fn frame(&self, khz: i32, nb_subfr: i32, f: Frame) -> Result<(), Refusal> {
         judge::frame(
-            self.state,
+            &self.state,
             khz,
             nb_subfr,
             f,
-            self.control,
-            self.lines,
+            &self.control,
+            &self.lines,
             self.pulses,
             self.output,
         )
@@ -188,16 +188,16 @@ impl Case {
             Asked::Received => self.frame(khz, nb_subfr, Frame::Received(self.params))?,
             Asked::Lost => self.frame(khz, nb_subfr, Frame::Lost)?,
             Asked::Core => judge::core(
-                self.state,
+                &self.state,
                 self.params,
-                self.control,
+                &self.control,
                 self.pulses,
                 self.output,
             )?,
-            Asked::PlcReceived => judge::plc_received(self.state, self.params, self.control)?,
-            Asked::PlcLost => judge::plc_lost(self.state, self.output)?,
-            Asked::Glue => judge::glue(self.state, self.output, self.length)?,
-            Asked::Cng => judge::cng(self.state, self.control, self.output, self.length)?,
+            Asked::PlcReceived => judge::plc_received(&self.state, self.params, &self.control)?,
+            Asked::PlcLost => judge::plc_lost(&self.state, self.output)?,
+            Asked::Glue => judge::glue(&self.state, self.output, self.length)?,
+            Asked::Cng => judge::cng(&self.state, &self.control, self.output, self.length)?,
             Asked::SetUp => {
                 set_up_with(khz, nb_subfr, self.state.settings)?;
             }

@@ -1,8 +1,8 @@
 // Tells of each line of standard input, an edition and coefficients, whether the filter is stable under it, or why not.
 #![tactic(auto)]
 
-use coefficients::{Entry, blank, ended, fed};
-use sentence::sentence_of;
+use coefficients::{Bad, Entry, blank, ended, fed};
+use sentence::{Sentence, sentence_of};
 use stability::silk_lpc_inverse_pred_gain_under;
 use std::io::{self, Read, Write};
 
@@ -12,33 +12,44 @@ fn bad_line(out: &mut impl Write) -> io::Result<()> {
     )
 }
 
-// The sentence of a whole line, or a message.
-fn tell(out: &mut impl Write, line: Entry) -> io::Result<()> {
-    let last = ended(line);
-    if last.bad {
-        return bad_line(out);
-    }
+// The sentence of a whole line.
+fn answered(line: Result<Entry, Bad>) -> Result<Sentence, Bad> {
+    let last = ended(line?)?;
     let a = last.a;
     // All of a line's numbers but the edition are coefficients.
     let order = last.count.saturating_sub(1);
     match silk_lpc_inverse_pred_gain_under(&a[1..], order, i32::from(a[0])) {
-        Ok(answer) => {
-            let s = sentence_of(answer);
-            out.write_all(&s.letters[..s.len.min(64)])?;
-            out.write_all(b"\n")
-        }
-        Err(_) => bad_line(out),
+        Ok(answer) => Ok(sentence_of(answer)),
+        Err(_) => Err(Bad),
     }
 }
 
+fn tell(out: &mut impl Write, line: Result<Entry, Bad>) -> io::Result<()> {
+    match answered(line) {
+        Ok(s) => {
+            out.write_all(&s.letters[..s.len.min(64)])?;
+            out.write_all(b"\n")
+        }
+        Err(Bad) => bad_line(out),
+    }
+}
+
+fn grown(line: Result<Entry, Bad>, b: u8) -> Result<Entry, Bad> {
+    fed(line?, b)
+}
+
 // The line that is being read, if a byte of it was.
-fn read_on(out: &mut impl Write, line: Option<Entry>, b: u8) -> io::Result<Option<Entry>> {
-    let line = line.unwrap_or(blank());
+fn read_on(
+    out: &mut impl Write,
+    line: Option<Result<Entry, Bad>>,
+    b: u8,
+) -> io::Result<Option<Result<Entry, Bad>>> {
+    let line = line.unwrap_or(Ok(blank()));
     if b == b'\n' {
         tell(out, line)?;
         return Ok(None);
     }
-    Ok(Some(fed(line, b)))
+    Ok(Some(grown(line, b)))
 }
 
 fn main(rt: HostRuntime) -> io::Result<()> {

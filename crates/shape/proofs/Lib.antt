@@ -1,2 +1,3 @@
 -- Laws that other proofs cite.
 pub mod Shapes
+pub mod Orders

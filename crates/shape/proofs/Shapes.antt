@@ -9,7 +9,7 @@ use lib.Dec.{T, eqb, lit≤}
 use lib.IntN.{ℤ, pos, nat_abs}
 use lib.Signed.{non_neg}
 use mir.Syntax.{w32, w64}
-use mir.Val.{of_z, Fits}
+use mir.Val.{of_z, to_z, Fits}
 use Rattle.word.proofs.Order.{isnt, eq_ℤ_true}
 use Rattle.word.specs.Int.{eq_ℤ}
 use Rattle.shape.specs.Shape.{order_of, is_rate, is_count, rate_of, count_of}
@@ -181,3 +181,19 @@ pub frame_le : (z n : ℤ) → 5 * rate_of z * count_of n ≤ 320
 frame_le z n =
     let a : 5 * rate_of z ≤ 80 = omega (arith, rate_le z) in
     omega (arith, mul-le-mul a (count_le n))
+
+-- a rate and a count are kept by a word's bits
+pub rate_back : (z : ℤ) → is_rate z ≡ true → to_z w32 (of_z w32 z) ≡ z
+rate_back z e = elim (rate_of-number z e) [
+  | inl p ↦ rw p refl
+  | inr q ↦ elim q [
+    | inl p ↦ rw p refl
+    | inr p ↦ rw p refl
+  ]
+]
+
+pub count_back : (z : ℤ) → is_count z ≡ true → to_z w32 (of_z w32 z) ≡ z
+count_back z e = elim (count_of-number z e) [
+  | inl p ↦ rw p refl
+  | inr p ↦ rw p refl
+]

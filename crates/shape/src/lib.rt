@@ -2,8 +2,9 @@
 // Inner: every function.
 #![tactic(auto)]
 
-ghost use Rattle.std.specs.Prelude.{◌≡◌, ◌*◌, pos};
+ghost use Rattle.std.specs.Prelude.{◌≡◌, ◌*◌, ◌⊎◌, true, pos};
 ghost use Rattle.shape.specs.Shape.{shape, frame_length, order_of, is_rate, is_count, rate_of, count_of};
+ghost use Rattle.shape.specs.Order.{size, order};
 
 #[derive(Clone, Copy)]
 pub struct Rate;
@@ -92,6 +93,63 @@ impl Rate {
             12 => Rate::LPC_ORDER_12,
             16 => Rate::LPC_ORDER_16,
             _ => 0,
+        }
+    }
+}
+
+// The order of a short-term filter.
+#[derive(Clone, Copy, Debug, PartialEq, Eq)]
+pub enum Order {
+    Ten,
+    Sixteen,
+}
+
+impl Order {
+    pub fn size(self) -> usize
+        ensures { result ≡ size self }
+    {
+        match self {
+            Order::Ten => 10,
+            Order::Sixteen => 16,
+        }
+    }
+
+    // The order that a number is, for callers whose number is one.
+    pub fn from_size(d: usize) -> Order
+        requires { (d ≡ 10) ⊎ (d ≡ 16) }
+        ensures { size result ≡ d }
+    {
+        if d == 16 { Order::Sixteen } else { Order::Ten }
+    }
+
+    // The order that a number is.
+    pub fn of(d: usize) -> Option<Order>
+        ensures { result ≡ order d }
+    {
+        match d {
+            10 => Some(Order::Ten),
+            16 => Some(Order::Sixteen),
+            _ => None,
+        }
+    }
+}
+
+// A rate and a count of subframes that rows 1 and 2 let pass.
+#[derive(Clone, Copy)]
+pub struct FrameShape {
+    pub fs_khz: i32,
+    pub nb_subfr: i32,
+    ghost rate: { is_rate fs_khz ≡ true },
+    ghost count: { is_count nb_subfr ≡ true },
+}
+
+impl FrameShape {
+    pub fn order(self) -> Order
+        ensures { size result ≡ order_of (rate_of self.fs_khz) }
+    {
+        match Rate::lpc_order(self.fs_khz) {
+            Rate::LPC_ORDER_16 => Order::Sixteen,
+            _ => Order::Ten,
         }
     }
 }

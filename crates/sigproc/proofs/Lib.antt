@@ -7,5 +7,6 @@ pub mod Residuals
 pub mod Energies
 pub mod Predict
 pub mod Filter
+pub mod Coefficients
 pub mod InPlace
 pub mod Frames

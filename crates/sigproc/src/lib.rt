@@ -2,9 +2,10 @@
 // Inner: every function.
 #![tactic(auto)]
 
-ghost use Rattle.std.specs.Prelude.{◌≡◌, ◌+◌, ◌-◌, ◌*◌, ◌%◌, ◌^◌, ◌<◌, ◌≤◌, ◌⊎◌, ◌++◌, map, length, take, drop, ◌*ℤ◌, unsigned_abs};
+ghost use Rattle.std.specs.Prelude.{◌≡◌, ◌+◌, ◌-◌, ◌*◌, ◌%◌, ◌^◌, ◌<◌, ◌≤◌, ◌++◌, map, length, take, drop, ◌*ℤ◌, unsigned_abs};
 ghost use Rattle.word.specs.Int.{wrap32};
 ghost use Rattle.macros.specs.Fixed.{round_shift};
+ghost use Rattle.shape.specs.Order.{size};
 ghost use Rattle.sigproc.specs.Place.{put_at, update_out_buf};
 ghost use Rattle.sigproc.specs.Expand.{shrunk, bwexpander};
 ghost use Rattle.sigproc.specs.Analysis.{products, residual, analysis};
@@ -15,6 +16,7 @@ use macros::{
     silk_add_sat32, silk_lshift_sat32, silk_rshift_round, silk_rshift_round64, silk_smlawb,
     silk_smulbb, silk_smull, silk_smulww,
 };
+use shape::Order;
 use word::{add32, low16, low32, mul16, sat16, shl32, shr32, sub32, wide16};
 
 // All of src, stored from place at on.
@@ -75,23 +77,22 @@ pub fn silk_bwexpander(ar: &mut [i16; 16], d: usize, chirp_q16: i32)
     }
 }
 
-fn products(x: &[i16], b: &[i16; 16], d: usize, i: usize) -> i32
-    requires { (d ≤ 16) × (d ≤ i) × (i ≤ length x.now) }
-    ensures { result ≡ products x.now b.now i d }
+fn products(x: &[i16], b: &[i16], i: usize) -> i32
+    requires { (length b.now ≤ i) × (i ≤ length x.now) }
+    ensures { result ≡ products x.now b.now i (length b.now) }
 {
     let mut sum = 0;
-    // The coefficients go up as the samples go down, so one number names both.
-    for j in 0..d {
-        sum = add32(sum, silk_smulbb(wide16(x[i - 1 - j]), wide16(b[j])));
+    for (j, c) in b.iter().enumerate() {
+        sum = add32(sum, silk_smulbb(wide16(x[i - 1 - j]), wide16(*c)));
     }
     sum
 }
 
-fn residual(x: &[i16], b: &[i16; 16], d: usize, i: usize) -> i16
-    requires { (d ≤ 16) × (d ≤ i) × (i < length x.now) }
-    ensures { result ≡ residual x.now b.now d i }
+fn residual(x: &[i16], b: &[i16], i: usize) -> i16
+    requires { (length b.now ≤ i) × (i < length x.now) }
+    ensures { result ≡ residual x.now b.now (length b.now) i }
 {
-    sat16(silk_rshift_round(sub32(shl32(wide16(x[i]), 12), products(x, b, d, i)), 12))
+    sat16(silk_rshift_round(sub32(shl32(wide16(x[i]), 12), products(x, b, i)), 12))
 }
 
 fn analysis_filter<const ORDER: usize>(out: &mut [i16], input: &[i16], b: &[i16; 16])
@@ -101,18 +102,17 @@ fn analysis_filter<const ORDER: usize>(out: &mut [i16], input: &[i16], b: &[i16;
     out[..ORDER].fill(0);
     // A turn reads the ORDER samples before its own.
     for i in ORDER..input.len() {
-        out[i] = residual(input, b, ORDER, i);
+        out[i] = residual(input, &b[..ORDER], i);
     }
 }
 
-pub fn silk_lpc_analysis_filter(out: &mut [i16], input: &[i16], b: &[i16; 16], d: usize)
-    requires { ((d ≡ 10) ⊎ (d ≡ 16)) × (d ≤ length input.now) × (length out.old ≡ length input.now) }
-    ensures { out.new ≡ analysis input.now b.now d }
+pub fn silk_lpc_analysis_filter(out: &mut [i16], input: &[i16], b: &[i16; 16], order: Order)
+    requires { (size order ≤ length input.now) × (length out.old ≡ length input.now) }
+    ensures { out.new ≡ analysis input.now b.now (size order) }
 {
-    if d == 10 {
-        analysis_filter::<10>(out, input, b);
-    } else {
-        analysis_filter::<16>(out, input, b);
+    match order {
+        Order::Ten => analysis_filter::<10>(out, input, b),
+        Order::Sixteen => analysis_filter::<16>(out, input, b),
     }
 }
 
@@ -174,13 +174,13 @@ pub fn ltp_prediction(past: &[i32], taps: &[i16; 5], p: usize) -> i32
 }
 
 // The newest sample comes last: it alone has to wait for the turn before.
-fn prediction(s: &[i32], a: &[i16; 16], d: usize, at: usize) -> i32
-    requires { (1 ≤ d) × (d ≤ 16) × (d ≤ at) × (at ≤ length s.now) }
-    ensures { result ≡ prediction s.now a.now d at d }
+fn prediction(s: &[i32], a: &[i16], at: usize) -> i32
+    requires { (1 ≤ length a.now) × (length a.now ≤ 16) × (length a.now ≤ at) × (at ≤ length s.now) }
+    ensures { result ≡ prediction s.now a.now (length a.now) at (length a.now) }
 {
-    let mut sum = (d / 2) as i32;
-    for j in 1..d {
-        sum = silk_smlawb(sum, s[at - 1 - j], wide16(a[j]));
+    let mut sum = (a.len() / 2) as i32;
+    for (j, c) in a[1..].iter().enumerate() {
+        sum = silk_smlawb(sum, s[at - 2 - j], wide16(*c));
     }
     silk_smlawb(sum, s[at - 1], wide16(a[0]))
 }
@@ -199,19 +199,18 @@ fn synthesis_of_order<const ORDER: usize>(buf: &mut [i32], a: &[i16; 16])
     let coefs = *a;
     // A turn reads what the turns before it wrote.
     for i in 0..buf.len() - 16 {
-        buf[16 + i] = synthesised(buf[16 + i], prediction(buf, &coefs, ORDER, 16 + i));
+        buf[16 + i] = synthesised(buf[16 + i], prediction(buf, &coefs[..ORDER], 16 + i));
     }
 }
 
 // The first 16 places hold the memory, the others the excitation, which the samples replace.
-pub fn synthesis(buf: &mut [i32], a: &[i16; 16], d: usize)
-    requires { ((d ≡ 10) ⊎ (d ≡ 16)) × (16 ≤ length buf.old) }
-    ensures { buf.new ≡ synthesis (take 16 buf.old) (drop 16 buf.old) a.now d (length buf.old - 16) }
+pub fn synthesis(buf: &mut [i32], a: &[i16; 16], order: Order)
+    requires { 16 ≤ length buf.old }
+    ensures { buf.new ≡ synthesis (take 16 buf.old) (drop 16 buf.old) a.now (size order) (length buf.old - 16) }
 {
-    if d == 10 {
-        synthesis_of_order::<10>(buf, a);
-    } else {
-        synthesis_of_order::<16>(buf, a);
+    match order {
+        Order::Ten => synthesis_of_order::<10>(buf, a),
+        Order::Sixteen => synthesis_of_order::<16>(buf, a),
     }
 }
 

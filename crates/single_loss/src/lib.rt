@@ -19,10 +19,10 @@ pub fn single_loss(bytes: &[u8], limit: i32) -> Result<Option<usize>, Refusal>
     let r = read(bytes)?;
     refuse_if(!within(1, 32767, limit), Refusal::Limit)?;
     let s = set_up_for(r.rate, r.subframes)?;
-    let records = &r.records[..r.frames];
-    let loud = passes(s, r.rate, r.subframes, bytes, records, limit);
+    let frames = r.frames_in(bytes);
+    let loud = passes(s, r.rate, r.subframes, &frames, limit);
     refuse_if(loud, Refusal::Limit)?;
-    let found = first_culprit(s, r.rate, r.subframes, bytes, records, limit);
+    let found = first_culprit(s, r.rate, r.subframes, &frames, limit);
     Ok(found)
 }
 

@@ -1,17 +1,14 @@
 -- The slices after a call.
-use Prim.Native.Nat.{ℕ, ◌≤◌}
 use mathlib.Core.Path.{◌≡◌, refl, ap, ◌∙◌}
-use mathlib.Core.Bool.{false, false≢true}
+use mathlib.Core.Bool.{false≢true}
 use mathlib.Core.List.{List}
-use native.Mathlib.Omega.{arith}
 use lib.IntN.{ℤ}
 use lib.ListN.{length}
 use Rattle.std.specs.Prelude.{Result, Ok, Err, is_ok}
 use Rattle.refusal.specs.Refusals.{Judged, if_accepted, answered as judged_by}
 use Rattle.refusal.specs.declared.Refusal.{Refusal}
 use Rattle.decode_frame.specs.Answer.{frame_refusal, frame_answer}
-use Rattle.layout.specs.Frame.{FRAME, short_call, frame_in}
-use Rattle.layout.proofs.Slices.{call_long}
+use Rattle.layout.specs.Frame.{frame_in}
 use Rattle.slices.specs.Slices.{Slices, slices, leaves}
 use Rattle.slices.specs.Whole.{refusal_in, answered}
 
@@ -39,8 +36,3 @@ judged_of (Err r) x left lent = refl
 pub judged_alike : (m : Slices) → refusal_in m.words m.halves m.frame m.coefs (length m.pulses) (length m.output) ≡ (answered (frame_in m.frame) m).judged
 unfolding refusal_in answered frame_answer frame_refusal
 judged_alike m = judged_of _ _ _ m
-
--- slices that are long enough hold a description
-pub described : (words halves frame coefs : ℕ) → short_call words halves frame coefs ≡ false → (FRAME ≤ frame) × (20 ≤ coefs)
-described words halves frame coefs e =
-    let l = call_long words halves frame coefs e in (l.2, omega (arith, l.3))

@@ -4,6 +4,8 @@ use Rattle.refusal.specs.Refusals.{Judged}
 use Rattle.refusal.specs.declared.Refusal.{Refusal}
 use Rattle.decoder.specs.declared.SilkDecoderState.{SilkDecoderState}
 use Rattle.decoder.specs.declared.SilkDecoderControl.{SilkDecoderControl}
+use Rattle.layout.specs.declared.state.StateSlices.{StateSlices}
+use Rattle.layout.specs.declared.frame.FrameSlices.{FrameSlices}
 use Rattle.layout.specs.Layout.{state_in, with_words, with_halves}
 use Rattle.layout.specs.Frame.{control_in, with_lags, with_taps}
 
@@ -19,6 +21,10 @@ pub record Slices : Type 0 where
 abbrev pub slices : (words halves frame coefs pulses output : List ℤ) → Slices
 slices words halves frame coefs pulses output =
     record { words = words; halves = halves; frame = frame; coefs = coefs; pulses = pulses; output = output }
+
+-- those that a program lends for a state and a frame, pulses and samples
+abbrev pub lent : StateSlices → FrameSlices → (pulses output : List ℤ) → Slices
+lent s f pulses output = slices s.words.now s.halves.now f.numbers.now f.coefs.now pulses output
 
 module _ (m : Slices) where
   abbrev pub state_of : SilkDecoderState

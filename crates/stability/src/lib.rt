@@ -15,6 +15,14 @@ use word::{abs32, add32, low32, neg32, shl32, sub32, wide};
 
 const A_LIMIT: u32 = 16773022;
 
+// Coefficients (Q12) that the test takes: one at least, and at most 16.
+#[derive(Clone, Copy)]
+pub struct Coefs<'a> {
+    pub a_q12: &'a [i16],
+    ghost some: { 1 ≤ length a_q12.now },
+    ghost few: { length a_q12.now ≤ 16 },
+}
+
 // Why a filter has no inverse gain, with the place of the step's coefficient.
 #[derive(Clone, Copy, Debug, PartialEq, Eq)]
 pub enum Unstable {
@@ -162,6 +170,7 @@ fn lpc_inverse_pred_gain_qa(mut a: [i32; 16], order: usize, edition: i32) -> Res
     ensures { result ≡ steps a_limit edition a (pos (2 ^ 30)) (order - 1) }
 {
     let mut gain = 1073741824;
+    // By place: a step's place is told where it ends the test, and the next step reads the coefficients below it.
     for k in (1..order).rev() {
         gain = step(a[k], gain, k as u8)?;
         let fits = next_coefficients(&mut a, k);
@@ -173,47 +182,43 @@ fn lpc_inverse_pred_gain_qa(mut a: [i32; 16], order: usize, edition: i32) -> Res
 }
 
 // The coefficients added up.
-fn dc_resp(a: &[i16]) -> i32
-    requires { length a.now ≤ 16 }
-    ensures { result ≡ total a.now (length a.now) }
+fn dc_resp(c: Coefs) -> i32
+    ensures { result ≡ total c.entry.a_q12.now (length c.entry.a_q12.now) }
 {
     let mut sum = 0;
-    for x in a {
+    for x in c.a_q12 {
         sum += i32::from(*x);
     }
     sum
 }
 
 // The coefficients in Q24.
-fn in_qa(a: &[i16]) -> [i32; 16]
-    requires { length a.now ≤ 16 }
-    ensures { result ≡ map (λ x. x *ℤ pos (2 ^ 12)) a.now ++ drop (length a.now) (replicate 16 (pos 0)) }
+fn in_qa(c: Coefs) -> [i32; 16]
+    ensures { result ≡ map (λ x. x *ℤ pos (2 ^ 12)) c.entry.a_q12.now ++ drop (length c.entry.a_q12.now) (replicate 16 (pos 0)) }
 {
     let mut a_qa = [0; 16];
-    for (k, x) in a.iter().enumerate() {
+    for (k, x) in c.a_q12.iter().enumerate() {
         a_qa[k] = shl32(i32::from(*x), 12);
     }
     a_qa
 }
 
-// The test of the first order coefficients, for callers whose order is in range.
-pub fn stable_or_why(a: &[i16], order: usize, edition: i32) -> Result<i32, Unstable>
-    requires { (1 ≤ order) × (order ≤ 16) × (order ≤ length a.now) }
-    ensures { result ≡ stability edition (take order a.now) }
+// The test, for callers whose order is in range.
+pub fn stable_or_why(c: Coefs, edition: i32) -> Result<i32, Unstable>
+    ensures { result ≡ stability edition c.entry.a_q12.now }
 {
-    if dc_resp(&a[..order]) >= 4096 {
+    if dc_resp(c) >= 4096 {
         return Err(Unstable::Sum);
     }
-    lpc_inverse_pred_gain_qa(in_qa(&a[..order]), order, edition)
+    lpc_inverse_pred_gain_qa(in_qa(c), c.a_q12.len(), edition)
 }
 
 // Its inverse gain alone, 0 if there is none.
 #[tactic(auto, unfolding(crate::specs::Stability::inverse_gain))]
-pub fn inverse_pred_gain(a: &[i16], order: usize, edition: i32) -> i32
-    requires { (1 ≤ order) × (order ≤ 16) × (order ≤ length a.now) }
-    ensures { result ≡ inverse_gain (stability edition (take order a.now)) }
+pub fn inverse_pred_gain(c: Coefs, edition: i32) -> i32
+    ensures { result ≡ inverse_gain (stability edition c.entry.a_q12.now) }
 {
-    stable_or_why(a, order, edition).unwrap_or(0)
+    stable_or_why(c, edition).unwrap_or(0)
 }
 
 // A lower limit changes no answer but those that become a step's coefficient.
@@ -239,7 +244,10 @@ pub fn silk_lpc_inverse_pred_gain_under(
     ensures { result ≡ tested_under a_q12.now order edition }
 {
     judge(a_q12.len(), order, edition)?;
-    Ok(stable_or_why(a_q12, order, edition))
+    let c = Coefs {
+        a_q12: &a_q12[..order],
+    };
+    Ok(stable_or_why(c, edition))
 }
 
 // The same where no edition is named.

@@ -1,5 +1,7 @@
 -- Set-up and the stages alone, on what slices hold: why a call is turned down, and the slices after it.
-use Rattle.std.specs.Prelude.{ℕ, ℤ}
+use Rattle.std.specs.Prelude.{ℕ, ℤ, Result, Ok, Err}
+use Rattle.refusal.specs.Refusals.{Judged}
+use Rattle.refusal.specs.declared.Refusal.{Refusal}
 use Rattle.decoder.specs.SetUp.{set_up_with}
 use Rattle.decoder.specs.declared.Settings.{Settings}
 use Rattle.glue.specs.Answer.{glue_answer, glue_output}
@@ -9,6 +11,16 @@ use Rattle.decode_core.specs.Answer.{core_answer, core_output}
 use Rattle.layout.specs.Layout.{with_words, with_halves}
 use Rattle.layout.specs.Frame.{params_in, tapless, rows_in, with_lags}
 use Rattle.slices.specs.Slices.{Slices, slices, state_of, control_of, with_state, with_control, Answered, leaves}
+
+-- how a call is judged that answers a
+abbrev pub judged_as : {A : Type 0} → Result A Refusal → Judged
+judged_as (Ok a) = Ok tt
+judged_as (Err r) = Err r
+
+-- what it leaves of what was lent
+abbrev pub left_by : {A B : Type 0} → Result A Refusal → (A → B) → B → B
+left_by (Ok a) left lent = left a
+left_by (Err r) left lent = lent
 
 -- a state for a rate, a count of subframes and settings
 unfoldable pub set_up_on : ℤ → ℤ → Settings → Slices → Answered

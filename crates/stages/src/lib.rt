@@ -2,117 +2,120 @@
 // Inner: every function.
 #![tactic(auto)]
 
-ghost use Rattle.std.specs.Prelude.{◌≡◌, false, [], length};
-ghost use Rattle.layout.specs.Layout.{short_state};
-ghost use Rattle.layout.specs.Frame.{short_frame, short_call};
-ghost use Rattle.slices.specs.Slices.{slices};
-ghost use Rattle.stages.specs.Stages.{set_up_on, core_on, plc_received_on, plc_lost_on, glue_on, noise_on};
+ghost use Rattle.std.specs.Prelude.{◌≡◌, [], ◌≤◌, length};
+ghost use Rattle.layout.specs.Layout.{with_words, with_halves};
+ghost use Rattle.layout.specs.Frame.{FRAME};
+ghost use Rattle.layout.specs.Lent.{SameState, SameFrame};
+ghost use Rattle.slices.specs.Slices.{slices, lent};
+ghost use Rattle.stages.specs.Stages.{judged_as, left_by, set_up_on, core_on, plc_received_on, plc_lost_on, glue_on, noise_on};
 
 use cng::silk_cng;
 use decode_core::silk_decode_core;
-use decoder::Settings;
+use decoder::{Settings, SilkDecoderState};
 use glue::silk_plc_glue_frames;
-use layout::frame::{control_in, params_in, put_lags, put_taps, rows_in, tapless};
-use layout::{put_state, state_in};
+use layout::frame::{CoefNumbers, FrameNumbers, FrameSlices, put_lags};
+use layout::put_answer;
+use layout::state::StateSlices;
 use plc::conceal::silk_plc_lost;
 use plc::update::silk_plc_received;
 use refusal::Refusal;
+
+// A call's new state stored. Not `?` in its callers, which copies the state.
+#[inline(always)]
+fn stored(
+    answer: &Result<SilkDecoderState, Refusal>,
+    state: &mut StateSlices<'_>,
+) -> Result<(), Refusal>
+    ensures answer { (result ≡ judged_as answer.now)
+        × (state.new.words.now ≡ left_by answer.now (with_words state.old.words.now) state.old.words.now)
+        × (state.new.halves.now ≡ left_by answer.now (with_halves state.old.halves.now) state.old.halves.now) }
+    ensures same_reference { SameState state.old state.new }
+{
+    match answer {
+        Ok(s) => {
+            state.put(s);
+            Ok(())
+        }
+        Err(refusal) => Err(*refusal),
+    }
+}
 
 pub fn set_up(
     rate: i32,
     subframes: i32,
     settings: Settings,
-    words: &mut [i32],
-    halves: &mut [i16],
+    state: &mut StateSlices<'_>,
 ) -> Result<(), Refusal>
-    requires { short_state (length words.old) (length halves.old) ≡ false }
-    ensures { record { judged = result; after = slices words.new halves.new [] [] [] [] }
-        ≡ set_up_on rate subframes settings (slices words.old halves.old [] [] [] []) }
+    ensures answer { record { judged = result; after = slices state.new.words.now state.new.halves.now [] [] [] [] }
+        ≡ set_up_on rate subframes settings (slices state.old.words.now state.old.halves.now [] [] [] []) }
+    ensures same_reference { SameState state.old state.new }
 {
     let answer = decoder::set_up_with(rate, subframes, settings);
-    // Not `?`, which copies the state.
-    match &answer {
-        Ok(fresh) => {
-            put_state(fresh, words, halves);
-            Ok(())
-        }
-        Err(refusal) => Err(*refusal),
-    }
+    stored(&answer, state)
 }
 
-#[tactic(auto, using(layout::proofs::Slices::call_long))]
 pub fn core(
-    words: &mut [i32],
-    halves: &mut [i16],
-    frame: &mut [i32],
-    coefs: &mut [i16],
+    state: &mut StateSlices<'_>,
+    frame: &mut FrameSlices<'_>,
     pulses: &[i16],
     output: &mut [i16],
 ) -> Result<(), Refusal>
-    requires { short_call (length words.old) (length halves.old) (length frame.old) (length coefs.old) ≡ false }
-    ensures { record { judged = result; after = slices words.new halves.new frame.new coefs.new pulses.now output.new }
-        ≡ core_on (slices words.old halves.old frame.old coefs.old pulses.now output.old) }
+    ensures answer { record { judged = result; after = lent state.new frame.new pulses.now output.new }
+        ≡ core_on (lent state.old frame.old pulses.now output.old) }
+    ensures same_reference { SameState state.old state.new × SameFrame frame.old frame.new }
 {
-    let s = state_in(words, halves);
-    let q = params_in(frame);
-    let c = control_in(frame, coefs);
-    let rows = rows_in(coefs);
+    let s = state.state();
+    let numbers = frame.numbers();
+    let coefs = frame.coefs();
+    let q = numbers.params();
+    let c = numbers.control(coefs.coefs);
+    let rows = coefs.rows();
     let answer = silk_decode_core(s, q, c, rows, pulses, output);
-    // Not `?`, which copies the answer.
+    // Not `?`, which copies the answer, nor `stored`, since lags and taps are new too.
     match &answer {
         Ok(a) => {
-            put_state(&a.state, words, halves);
-            put_lags(&a.control, frame);
-            put_taps(&a.control, coefs);
+            put_answer(a, state, frame);
             Ok(())
         }
         Err(refusal) => Err(*refusal),
     }
 }
 
-#[tactic(auto, using(layout::proofs::Slices::call_long))]
 pub fn plc_received(
-    words: &mut [i32],
-    halves: &mut [i16],
-    frame: &[i32],
-    coefs: &[i16],
+    state: &mut StateSlices<'_>,
+    frame: FrameNumbers<'_>,
+    coefs: CoefNumbers<'_>,
 ) -> Result<(), Refusal>
-    requires { short_call (length words.old) (length halves.old) (length frame.now) (length coefs.now) ≡ false }
-    ensures { record { judged = result; after = slices words.new halves.new frame.now coefs.now [] [] }
-        ≡ plc_received_on (slices words.old halves.old frame.now coefs.now [] []) }
+    ensures answer { record { judged = result; after = slices state.new.words.now state.new.halves.now frame.entry.numbers.now coefs.entry.coefs.now [] [] }
+        ≡ plc_received_on (slices state.old.words.now state.old.halves.now frame.entry.numbers.now coefs.entry.coefs.now [] []) }
+    ensures same_reference { SameState state.old state.new }
 {
-    let s = state_in(words, halves);
-    let q = params_in(frame);
-    let c = control_in(frame, coefs);
-    let rows = rows_in(coefs);
+    let s = state.state();
+    let q = frame.params();
+    let c = frame.control(coefs.coefs);
+    let rows = coefs.rows();
     let answer = silk_plc_received(s, q, c, rows);
-    // Not `?`, which copies the state.
-    match &answer {
-        Ok(updated) => {
-            put_state(updated, words, halves);
-            Ok(())
-        }
-        Err(refusal) => Err(*refusal),
-    }
+    stored(&answer, state)
 }
 
 pub fn plc_lost(
-    words: &mut [i32],
-    halves: &mut [i16],
+    state: &mut StateSlices<'_>,
     frame: &mut [i32],
     output: &mut [i16],
 ) -> Result<(), Refusal>
-    requires { short_frame (length words.old) (length halves.old) (length frame.old) ≡ false }
-    ensures { record { judged = result; after = slices words.new halves.new frame.new [] [] output.new }
-        ≡ plc_lost_on (slices words.old halves.old frame.old [] [] output.old) }
+    requires { FRAME ≤ length frame.old }
+    ensures answer { record { judged = result; after = slices state.new.words.now state.new.halves.now frame.new [] [] output.new }
+        ≡ plc_lost_on (slices state.old.words.now state.old.halves.now frame.old [] [] output.old) }
+    ensures same_reference { SameState state.old state.new }
 {
-    let s = state_in(words, halves);
-    let c = tapless(frame);
+    let s = state.state();
+    let numbers = FrameNumbers { numbers: frame };
+    let c = numbers.tapless();
     let answer = silk_plc_lost(s, c, output);
-    // Not `?`, which copies the answer.
+    // Not `?`, which copies the answer, nor `stored`, since the lags are new too.
     match &answer {
         Ok(concealed) => {
-            put_state(&concealed.state, words, halves);
+            state.put(&concealed.state);
             put_lags(&concealed.control, frame);
             Ok(())
         }
@@ -120,49 +123,28 @@ pub fn plc_lost(
     }
 }
 
-#[tactic(auto, using(layout::proofs::Slices::state_long))]
-pub fn glue(
-    words: &mut [i32],
-    halves: &mut [i16],
-    buffer: &mut [i16],
-    n: usize,
-) -> Result<(), Refusal>
-    requires { short_state (length words.old) (length halves.old) ≡ false }
-    ensures { record { judged = result; after = slices words.new halves.new [] [] [] buffer.new }
-        ≡ glue_on n (slices words.old halves.old [] [] [] buffer.old) }
+pub fn glue(state: &mut StateSlices<'_>, buffer: &mut [i16], n: usize) -> Result<(), Refusal>
+    ensures answer { record { judged = result; after = slices state.new.words.now state.new.halves.now [] [] [] buffer.new }
+        ≡ glue_on n (slices state.old.words.now state.old.halves.now [] [] [] buffer.old) }
+    ensures same_reference { SameState state.old state.new }
 {
-    let s = state_in(words, halves);
+    let s = state.state();
     let answer = silk_plc_glue_frames(s, buffer, n);
-    // Not `?`, which copies the state.
-    match &answer {
-        Ok(glued) => {
-            put_state(glued, words, halves);
-            Ok(())
-        }
-        Err(refusal) => Err(*refusal),
-    }
+    stored(&answer, state)
 }
 
 pub fn noise(
-    words: &mut [i32],
-    halves: &mut [i16],
-    frame: &[i32],
+    state: &mut StateSlices<'_>,
+    frame: FrameNumbers<'_>,
     buffer: &mut [i16],
     n: usize,
 ) -> Result<(), Refusal>
-    requires { short_frame (length words.old) (length halves.old) (length frame.now) ≡ false }
-    ensures { record { judged = result; after = slices words.new halves.new frame.now [] [] buffer.new }
-        ≡ noise_on n (slices words.old halves.old frame.now [] [] buffer.old) }
+    ensures answer { record { judged = result; after = slices state.new.words.now state.new.halves.now frame.entry.numbers.now [] [] buffer.new }
+        ≡ noise_on n (slices state.old.words.now state.old.halves.now frame.entry.numbers.now [] [] buffer.old) }
+    ensures same_reference { SameState state.old state.new }
 {
-    let s = state_in(words, halves);
-    let c = tapless(frame);
+    let s = state.state();
+    let c = frame.tapless();
     let answer = silk_cng(s, c, buffer, n);
-    // Not `?`, which copies the state.
-    match &answer {
-        Ok(noised) => {
-            put_state(noised, words, halves);
-            Ok(())
-        }
-        Err(refusal) => Err(*refusal),
-    }
+    stored(&answer, state)
 }

@@ -2,13 +2,18 @@
 // Inner: every function.
 #![tactic(auto)]
 
-ghost use Rattle.std.specs.Prelude.{◌≡◌, ◌++◌, ◌+◌, ◌*◌, ◌^◌, ◌≤◌, ◌<◌, pos, length, take, drop, replicate};
+ghost use Rattle.std.specs.Prelude.{◌≡◌, ◌≢◌, ◌∷◌, ◌++◌, ◌+◌, ◌-◌, ◌*◌, ◌^◌, ◌≤◌, ◌<◌, pos, length, take, drop, replicate, IfOk, IfErr};
 ghost use Rattle.std.specs.Int.{w16};
+ghost use Rattle.std.specs.IoError.{error_kind};
 ghost use Rattle.le.specs.Bytes.{bytes_of, packed};
 ghost use Rattle.stream.specs.Wav.{wav_header};
 ghost use Rattle.stream.specs.Header.{is_stream, samples_of, opened_of};
+ghost use Rattle.stream.specs.Records.{sample_bytes, Taken};
 
-use le::{Word, put_bytes, put_words, signed_byte, stands_at};
+use input::is_filled;
+use le::{Word, put_bytes, put_words, stands_at};
+use std::fmt;
+use std::io::{self, ErrorKind, Read};
 
 // A frame's samples, two bytes each.
 pub fn samples_bytes(samples: &[i16; 320]) -> [u8; 640]
@@ -61,7 +66,57 @@ pub enum Unplayed {
     Long,
 }
 
-const MARK: [u8; 8] = *b"SILKVEC1";
+// The same, as a program says it that has the streams of the decoder's rates `done`, as in "played".
+#[derive(Clone, Copy)]
+pub struct Told {
+    pub why: Unplayed,
+    pub done: &'static str,
+}
+
+impl fmt::Display for Told {
+    fn fmt<W: fmt::Write>(&self, f: &mut fmt::Formatter<W>) -> fmt::Result {
+        let Told { why, done } = *self;
+        match why {
+            Unplayed::Cut => f.write_str("no stream: the file ends within its first 16 bytes"),
+            Unplayed::Foreign => f.write_str("no stream: the file has another format"),
+            Unplayed::Rate(rate) => {
+                write!(
+                    f,
+                    "no stream: its rate is {rate} kHz; {done} are 8, 12 and 16"
+                )
+            }
+            Unplayed::Subframes(n) => {
+                write!(
+                    f,
+                    "no stream: its frames have {n} subframes; {done} are 2 and 4"
+                )
+            }
+            Unplayed::Long => f.write_str("the stream is too long for a WAV file"),
+        }
+    }
+}
+
+// Why a record isn't read: the file ends within it, or its kind is unknown.
+#[derive(Clone, Copy)]
+pub enum Unread {
+    Cut(u32),
+    Kind(u32, u8),
+}
+
+impl fmt::Display for Unread {
+    fn fmt<W: fmt::Write>(&self, f: &mut fmt::Formatter<W>) -> fmt::Result {
+        match self {
+            Unread::Cut(i) => write!(f, "the file ends within record {i}"),
+            Unread::Kind(i, kind) => write!(
+                f,
+                "record {i} has the kind {kind}; known are 0 (lost) and 1 (received)"
+            ),
+        }
+    }
+}
+
+// A stream's first bytes.
+pub const MARK: [u8; 8] = *b"SILKVEC1";
 
 fn is_stream(header: &[u8; 16]) -> bool
     ensures { result ≡ is_stream header.now }
@@ -72,7 +127,7 @@ fn is_stream(header: &[u8; 16]) -> bool
 fn samples_of(header: &[u8; 16]) -> u64
     ensures { (result ≡ samples_of header.now) × (result < 2 ^ 62) }
 {
-    let n = shape::frame_length(signed_byte(header[8]), signed_byte(header[9]));
+    let n = shape::frame_length(i32::from(header[8]), i32::from(header[9]));
     (u32::at(header, 12) as u64) * (n as u64)
 }
 
@@ -88,10 +143,10 @@ pub fn read_header(header: &[u8; 16], got: usize) -> Result<Head, Unplayed>
     }
     let rate = header[8];
     let subframes = header[9];
-    if !shape::is_rate(signed_byte(rate)) {
+    if !shape::is_rate(i32::from(rate)) {
         return Err(Unplayed::Rate(rate));
     }
-    if !shape::is_count(signed_byte(subframes)) {
+    if !shape::is_count(i32::from(subframes)) {
         return Err(Unplayed::Subframes(subframes));
     }
     let samples = samples_of(header);
@@ -104,6 +159,52 @@ pub fn read_header(header: &[u8; 16], got: usize) -> Result<Head, Unplayed>
         records: u32::at(header, 12),
         samples: samples as u32,
     })
+}
+
+// A record's first bytes, with zeros behind them.
+fn whole(kind: u8, rest: &[u8]) -> [u8; 817]
+    requires { length rest.now ≤ 816 }
+    ensures { result ≡ kind ∷ rest.now ++ replicate (816 - length rest.now) 0 }
+{
+    let mut bytes = [0; 817];
+    bytes[0] = kind;
+    bytes[1..1 + rest.len()].copy_from_slice(rest);
+    bytes
+}
+
+impl Head {
+    // The bytes of a frame's samples.
+    pub fn sample_bytes(self) -> usize
+        ensures { (result ≡ sample_bytes self) × (result ≤ 640) }
+    {
+        2 * shape::frame_length(i32::from(self.rate), i32::from(self.subframes))
+    }
+
+    // The bytes of record i but for the samples that end it, which are passed over; of a lost frame's, the kind alone.
+    pub fn next_record<R: Read>(
+        self,
+        input: &mut R,
+        i: u32,
+    ) -> io::Result<Result<[u8; 817], Unread>>
+        ensures bytes { IfOk result (λ r. Taken (R.remaining input.old) (R.remaining input.new) i (sample_bytes self) r) }
+        ensures retried { IfErr result (λ e. error_kind e ≢ ErrorKind.Interrupted) }
+    {
+        let n = self.sample_bytes();
+        let mut first = [0; 1];
+        if !is_filled(input, &mut first)? {
+            return Ok(Err(Unread::Cut(i)));
+        }
+        let kind = first[0];
+        if kind > 1 {
+            return Ok(Err(Unread::Kind(i, kind)));
+        }
+        let size = if kind == 1 { 176 + n } else { 0 };
+        let mut rest = [0; 1456];
+        if !is_filled(input, &mut rest[..size + n])? {
+            return Ok(Err(Unread::Cut(i)));
+        }
+        Ok(Ok(whole(kind, &rest[..size])))
+    }
 }
 
 // A frame of zeros.

@@ -1,9 +1,9 @@
 // Signed words: exact sums and products in a wider word, the low bits of a wider number, shifts and order.
-// Inner: every function.
+// Inner: every function. The names stay where the library has a method of another name: the definitions speak of integers, and so do these contracts.
 // A shift takes the low bits of its amount, as a release build of Rust does.
 #![tactic(auto)]
 
-ghost use Rattle.std.specs.Prelude.{◌≡◌, ◌^◌, ◌<◌, pos, negsuc, nat_abs, neg_ℤ, ◌+ℤ◌, ◌-ℤ◌, ◌*ℤ◌};
+ghost use Rattle.std.specs.Prelude.{◌≡◌, ◌^◌, ◌<◌, pos, negsuc, nat_abs, neg_ℤ, ◌+ℤ◌, ◌-ℤ◌, ◌*ℤ◌, ℤ};
 ghost use Rattle.word.specs.Int.{wrap16, wrap32, wrap64, floor_div, mod_ℤ, min_ℤ, max_ℤ, clamp, sat16, sat32};
 
 // The same number, in 64 bits.
@@ -24,6 +24,30 @@ pub fn wide16(a: i16) -> i32
     ensures { result ≡ a }
 {
     i32::from(a)
+}
+
+// A number of up to 32 bits.
+pub trait Number: Copy {
+    ghost number: { Self → ℤ };
+
+    fn number(self) -> i32
+        ensures { result ≡ number self };
+}
+
+impl Number for i16 {
+    ghost number = { λ x. x };
+
+    fn number(self) -> i32 {
+        i32::from(self)
+    }
+}
+
+impl Number for i32 {
+    ghost number = { λ x. x };
+
+    fn number(self) -> i32 {
+        self
+    }
 }
 
 // The low 32 bits, by two shifts, since an `as` must keep the number; and so the low 16.
@@ -86,17 +110,11 @@ pub fn shl32(x: i32, s: i32) -> i32
     x.wrapping_shl(s.cast_unsigned())
 }
 
-// The bits of a word, as an unsigned number, and the number that such bits are.
+// The bits of a word, as an unsigned number.
 pub fn bits32(a: i32) -> u32
     ensures { result ≡ mod_ℤ a (2 ^ 32) }
 {
     a.cast_unsigned()
-}
-
-pub fn of_bits32(u: u32) -> i32
-    ensures { result ≡ wrap32 (pos u) }
-{
-    u.cast_signed()
 }
 
 // The whole product of two short numbers.

@@ -1,4 +1,5 @@
 use mathlib.Core.Path.{◌≡◌, sym, ◌∙◌}
+use borrow.Author.Rules.{rules}
 use lib.Dec.{lit<}
 use lib.IntN.{pos}
 use lib.ListN.{length, get_or}
@@ -22,10 +23,10 @@ returns-then-s-eq0 c =
     let s = a.s in
     let p = shape_of s in
     let z = is w32 s.loss_cnt 0 (lit< tt) (record { sfits = c.struct_told-1.given.1.1.1.1.1.1.1.1.1.1.1.1.1.1.0.1 }) c.if-s-eq0.true in
-    let e : c.received-t.result ≡ heard_noise p s.exc_q14 s.prev_nlsf_q15 a.gains.now s.prev_signal_type s.s_cng =
-    rw (c.received-t.ensures, khz, count, kept w32 s.prev_signal_type c.struct_told-1.given.1.1.1.1.1.1.1.1.1.1.1.1.1.1.1.0.1) in
+    let e : c.received.new.h ≡ heard_noise p s.exc_q14 s.prev_nlsf_q15 a.gains.now s.prev_signal_type s.s_cng =
+    rw (c.received.ensures, khz, count, kept w32 s.prev_signal_type c.struct_told-1.given.1.1.1.1.1.1.1.1.1.1.1.1.1.1.1.0.1) in
     let frame = a.frame.now in
-    let one : ◌≡◌ {A = Framed} (record { state = with_noise s c.received-t.result; frame = frame }) (record { state = with_noise s (heard_noise p s.exc_q14 s.prev_nlsf_q15 a.gains.now s.prev_signal_type s.s_cng); frame = frame }) = λ i. record { state = with_noise s (e i); frame = frame } in
+    let one : ◌≡◌ {A = Framed} (record { state = with_noise s c.received.new.h; frame = frame }) (record { state = with_noise s (heard_noise p s.exc_q14 s.prev_nlsf_q15 a.gains.now s.prev_signal_type s.s_cng); frame = frame }) = λ i. record { state = with_noise s (e i); frame = frame } in
     one ∙ sym (received_is p s a.gains.now (length frame) frame z)
 
 pub returns : goal.returns
@@ -40,9 +41,9 @@ returns c =
     let n = length frame in
     let z = isnt w32 s.loss_cnt 0 c.if-s-eq0.false in
     let v = s.settings.edition in
-    let u = kept w32 v c.struct_told-4-1.given.1.0.1 in
-    let e : c.lost-t.result ≡ sounded v d h n = rw (c.lost-t.ensures.0, khz, u) in
-    let f : c.lost-t.new.frame ≡ sounding v d s.s_plc.rand_scale_q14 (get_or s.s_plc.prev_gain_q16 1 (pos 0)) h n frame =
-    rw (c.lost-t.ensures.1, khz, u, kept w16 s.s_plc.rand_scale_q14 c.struct_told-3-1.given.1.1.1.1.1.0.1, kept w32 (get_or s.s_plc.prev_gain_q16 1 (pos 0)) c.lost-arg-2-1.given) in
-    let one : ◌≡◌ {A = Framed} (record { state = with_noise s c.lost-t.result; frame = c.lost-t.new.frame }) (record { state = with_noise s (sounded v d h n); frame = sounding v d s.s_plc.rand_scale_q14 (get_or s.s_plc.prev_gain_q16 1 (pos 0)) h n frame }) = λ i. record { state = with_noise s (e i); frame = f i } in
+    let u = kept w32 v (search rules) in
+    let e : c.lost.new.h ≡ sounded v d h n = rw (c.lost.ensures.0, khz, u) in
+    let f : c.lost.new.frame ≡ sounding v d s.s_plc.rand_scale_q14 (get_or s.s_plc.prev_gain_q16 1 (pos 0)) h n frame =
+    rw (c.lost.ensures.1, khz, u, kept w16 s.s_plc.rand_scale_q14 (search rules), kept w32 (get_or s.s_plc.prev_gain_q16 1 (pos 0)) c.lost-arg-2-1.given) in
+    let one : ◌≡◌ {A = Framed} (record { state = with_noise s c.lost.new.h; frame = c.lost.new.frame }) (record { state = with_noise s (sounded v d h n); frame = sounding v d s.s_plc.rand_scale_q14 (get_or s.s_plc.prev_gain_q16 1 (pos 0)) h n frame }) = λ i. record { state = with_noise s (e i); frame = f i } in
     one ∙ sym (lost-is p s a.gains.now n frame z)

@@ -5,4 +5,4 @@ use Rattle.cng.specs.Noise.{loudest}
 use Rattle.cng.proofs.loudest.Given as goal
 
 abbrev pub invariant-loop-k : goal.invariant-loop-k
-invariant-loop-k l = (l.k ≤ length l.g-items) × (l.b ≡ loudest l.gains l.k)
+invariant-loop-k l = (l.k ≤ length l.gains) × (l.b ≡ loudest l.gains l.k)

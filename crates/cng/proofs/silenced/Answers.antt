@@ -1,11 +1,15 @@
-use mir.Syntax.{w32}
-use Rattle.word.proofs.Words.{kept}
+use mathlib.Core.Path.{◌≡◌, refl}
+use borrow.Author.Rules.{rules}
+use lib.ListN.{length, take}
+use lib.Seq.{length-take-le}
+use Rattle.shape.proofs.Orders.{size_high}
 use Rattle.cng.specs.Noise.{silenced}
 use Rattle.cng.proofs.silenced.Goals as goal
 
 pub returns : goal.returns
 unfolding silenced
 returns c =
-    let h = c.args.h in
-    let t = c.struct_told-1.given in
-    rw (c.silenced_memory.ensures, kept w32 h.cng_smth_gain_q16 t.1.1.1.0.1, kept w32 h.rand_seed t.1.1.1.1.0.1, kept w32 h.fs_khz t.1.1.1.1.1.0.1)
+    let memory = c.args.h.now.cng_synth_state in
+    let sixteen : length memory ≡ 16 = search rules in
+    let n : length (take c.size.result memory) ≡ c.size.result = length-take-le _ _ (rw (sixteen, c.size.ensures) (size_high c.args.order)) in
+    rw (c.fill.ensures.after, n, c.size.ensures) refl

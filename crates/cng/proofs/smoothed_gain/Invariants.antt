@@ -5,4 +5,4 @@ use Rattle.cng.specs.Noise.{smoothed_gain}
 use Rattle.cng.proofs.smoothed_gain.Given as goal
 
 abbrev pub invariant-loop-g : goal.invariant-loop-g
-invariant-loop-g l = (l.g-index ≤ length l.g-items) × (l.gain ≡ smoothed_gain l.held l.gains l.g-index)
+invariant-loop-g l = (l.g-index ≤ length l.gains) × (l.gain ≡ smoothed_gain l.held l.gains l.g-index)

@@ -12,4 +12,4 @@ line held lines i = smoothed_line (get_or held i (pos 0)) (get_or lines i (pos 0
 
 abbrev pub invariant-loop-i : goal.invariant-loop-i
 invariant-loop-i l =
-    (l.i ≤ length l.initial.line-items) × (l.line-items ≡ tabulate l.i (line l.held l.lines) ++ drop l.i l.initial.line-items)
+    (l.i ≤ length l.initial.line-items) × (l.line-items ≡ tabulate l.i (line l.initial.line-items l.lines) ++ drop l.i l.initial.line-items)

@@ -9,6 +9,6 @@ use Rattle.culprit.proofs.first_culprit.Given as goal
 
 abbrev pub invariant-loop-k : goal.invariant-loop-k
 invariant-loop-k l =
-    (l.state ≡ state_at l.limit l.khz l.nb_subfr l.initial.state (map (recorded_at l.bytes) l.records) l.k)
-    × (first_from (is_culprit l.limit l.khz l.nb_subfr l.initial.state (map (recorded_at l.bytes) l.records)) 0 (length l.records)
-    ≡ first_from (is_culprit l.limit l.khz l.nb_subfr l.initial.state (map (recorded_at l.bytes) l.records)) l.k (length l.records - l.k))
+    (l.state ≡ state_at l.limit l.khz l.nb_subfr l.initial.state (map (recorded_at l.frames.bytes.now) l.frames.records.now) l.k)
+    × (first_from (is_culprit l.limit l.khz l.nb_subfr l.initial.state (map (recorded_at l.frames.bytes.now) l.frames.records.now)) 0 (length l.frames.records.now)
+    ≡ first_from (is_culprit l.limit l.khz l.nb_subfr l.initial.state (map (recorded_at l.frames.bytes.now) l.frames.records.now)) l.k (length l.frames.records.now - l.k))

@@ -24,7 +24,7 @@ module _ (c : After-lost_heard-h) where
   N = to_z w32 (of_z w32 c.args.nb_subfr)
 
   abbrev behind : List Recorded
-  behind = map (recorded_at c.args.bytes.now) c.args.behind.now
+  behind = map (recorded_at c.args.behind.now.bytes.now) c.args.behind.now.records.now
 
   turn : passes c.args.limit c.args.khz c.args.nb_subfr c.args.s (lost ∷ behind) ≡ (c.lost_heard-h.result.loud || passes L K N c.lost_heard-h.result.state behind)
   turn =

@@ -1,5 +1,5 @@
 use Prim.Native.Nat.{ℕ, ◌+◌}
-use mathlib.Core.Path.{◌≡◌, sym, ◌∙◌}
+use mathlib.Core.Path.{◌≡◌, sym, ap, ◌∙◌}
 use mathlib.Core.Bool.{◌||◌}
 use mathlib.Core.List.{map}
 use lib.IntN.{ℤ}
@@ -8,15 +8,17 @@ use lib.ListN.{drop}
 use mir.Syntax.{w32}
 use mir.Val.{to_z, of_z}
 use mir.Facts.{to_z-of_z}
-use Rattle.record.specs.Recorded.{Recorded}
+use Rattle.record.specs.Recorded.{Recorded, recorded_in}
 use Rattle.recording.specs.Frames.{recorded_at}
+use Rattle.playback.specs.Playback.{call_of}
+use Rattle.heard.specs.Loud.{heard_of}
 use Rattle.culprit.specs.Search.{passes}
 use Rattle.culprit.proofs.Laws.{frames-step, frames_done, or_true, or_false}
-use Rattle.culprit.proofs.passes.Goals.{After-heard_at-h}
+use Rattle.culprit.proofs.passes.Goals.{After-frame_heard-h}
 use Rattle.culprit.proofs.passes.Goals as goal
 
 -- a turn
-module _ (c : After-heard_at-h) where
+module _ (c : After-frame_heard-h) where
   abbrev L : ℤ
   L = to_z w32 (of_z w32 c.args.limit)
 
@@ -27,31 +29,32 @@ module _ (c : After-heard_at-h) where
   N = to_z w32 (of_z w32 c.args.nb_subfr)
 
   abbrev frame : ℕ → Recorded
-  frame = recorded_at c.args.bytes.now
+  frame = recorded_at c.args.frames.now.bytes.now
 
-  turn : passes L K N c.args.s (map frame c.args.records.now)
-      ≡ (c.heard_at-h.result.loud || passes L K N c.heard_at-h.result.state (map frame (drop (c.loop-i.i-index + 1) c.args.records.now)))
-  turn = c.loop-i.invariant ∙ frames-step frame c.args.records.now L K N c.loop-i.state c.loop-i.i-index c.heard_at-h.result c.loop-i-test.true c.heard_at-h.ensures
+  turn : passes L K N c.args.s (map frame c.args.frames.now.records.now)
+      ≡ (c.frame_heard-h.result.loud || passes L K N c.frame_heard-h.result.state (map frame (drop (c.loop-i.i-index + 1) c.args.frames.now.records.now)))
+  unfolding recorded_at
+  turn = c.loop-i.invariant ∙ frames-step frame c.args.frames.now.records.now L K N c.loop-i.state c.loop-i.i-index c.frame_heard-h.result c.loop-i-test.true (c.frame_heard-h.ensures ∙ ap (λ d. heard_of L c.loop-i.state (call_of K N (recorded_in d))) c.record.ensures)
 
-pub heard_at-h-requires : goal.heard_at-h-requires
-heard_at-h-requires c = c.requires c.loop-i.i-index
+pub record-requires : goal.record-requires
+record-requires c = c.args.frames.now.inside c.loop-i.i-index
 
 pub returns-then-h : goal.returns-then-h
 returns-then-h c =
     let l = to_z-of_z c.ranges.limit in
     let h = to_z-of_z c.ranges.khz in
     let m = to_z-of_z c.ranges.nb_subfr in
-    sym (turn (goal.at.returns-then-h c).After-heard_at-h ∙ or_true c.heard_at-h.result.loud _ c.if-h.true)
-    ∙ λ i. passes (l i) (h i) (m i) c.args.s (map (recorded_at c.args.bytes.now) c.args.records.now)
+    sym (turn (goal.at.returns-then-h c).After-frame_heard-h ∙ or_true c.frame_heard-h.result.loud _ c.if-h.true)
+    ∙ λ i. passes (l i) (h i) (m i) c.args.s (map (recorded_at c.args.frames.now.bytes.now) c.args.frames.now.records.now)
 
 pub loop-i-preserved : goal.loop-i-preserved
 loop-i-preserved c =
-    turn (goal.at.loop-i-preserved c).After-heard_at-h ∙ or_false c.heard_at-h.result.loud _ c.if-h.false
+    turn (goal.at.loop-i-preserved c).After-frame_heard-h ∙ or_false c.frame_heard-h.result.loud _ c.if-h.false
 
 pub returns : goal.returns
 returns c =
     let l = to_z-of_z c.ranges.limit in
     let h = to_z-of_z c.ranges.khz in
     let m = to_z-of_z c.ranges.nb_subfr in
-    sym (c.loop-i.invariant ∙ frames_done (recorded_at c.args.bytes.now) c.args.records.now _ _ _ c.loop-i.state c.loop-i.i-index (le_antisymm c.loop-i.auto.i-index-end c.loop-i-test.false))
-    ∙ λ i. passes (l i) (h i) (m i) c.args.s (map (recorded_at c.args.bytes.now) c.args.records.now)
+    sym (c.loop-i.invariant ∙ frames_done (recorded_at c.args.frames.now.bytes.now) c.args.frames.now.records.now _ _ _ c.loop-i.state c.loop-i.i-index (le_antisymm c.loop-i.auto.i-index-end c.loop-i-test.false))
+    ∙ λ i. passes (l i) (h i) (m i) c.args.s (map (recorded_at c.args.frames.now.bytes.now) c.args.frames.now.records.now)

@@ -7,5 +7,5 @@ use Rattle.culprit.proofs.passes.Given as goal
 
 abbrev pub invariant-loop-i : goal.invariant-loop-i
 invariant-loop-i l =
-    passes l.limit l.khz l.nb_subfr l.initial.state (map (recorded_at l.bytes) l.records)
-    ≡ passes l.limit l.khz l.nb_subfr l.state (map (recorded_at l.bytes) (drop l.i-index l.records))
+    passes l.limit l.khz l.nb_subfr l.initial.state (map (recorded_at l.frames.bytes.now) l.frames.records.now)
+    ≡ passes l.limit l.khz l.nb_subfr l.state (map (recorded_at l.frames.bytes.now) (drop l.i-index l.frames.records.now))

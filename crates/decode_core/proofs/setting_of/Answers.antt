@@ -8,6 +8,7 @@ unfolding setting_of transition
 returns c =
     let s = c.args.s in
     rw (
+      c.count_of-nb_subfr.ensures,
       c.subfr_length-subfr_length.ensures,
       c.ltp_mem_length-ltp_mem_length.ensures,
       c.lpc_order-lpc_order.ensures,
@@ -16,8 +17,9 @@ returns c =
       c.interpolates-interpolated.ensures,
       c.is_voiced-voiced.ensures,
       kept w32 s.fs_khz c.struct_told-1.given.1.1.1.1.1.0.1,
-      kept w32 s.loss_cnt c.struct_told-2-1.given.1.1.1.1.1.1.1.1.1.1.1.1.1.1.0.1,
-      kept w32 s.prev_signal_type c.struct_told-3-1.given.1.1.1.1.1.1.1.1.1.1.1.1.1.1.1.0.1,
-      kept w8 c.args.q.nlsf_interp_coef_q2 c.struct_told-5-1.given.1.1.0.1,
-      kept w32 s.lag_prev c.struct_told-4-1.given.1.1.1.1.0.1,
+      kept w32 s.nb_subfr c.struct_told-2-1.given.1.1.1.1.1.1.0.1,
+      kept w32 s.loss_cnt c.struct_told-3-1.given.1.1.1.1.1.1.1.1.1.1.1.1.1.1.0.1,
+      kept w32 s.prev_signal_type c.struct_told-4-1.given.1.1.1.1.1.1.1.1.1.1.1.1.1.1.1.0.1,
+      kept w8 c.args.q.nlsf_interp_coef_q2 c.struct_told-6-1.given.1.1.0.1,
+      kept w32 s.lag_prev c.struct_told-5-1.given.1.1.1.1.0.1,
     )

@@ -16,49 +16,49 @@ use Rattle.decode_frame.specs.WholeFrame.{lost, muted, whole_frame}
 use Rattle.decode_frame.specs.Call.{frame_call}
 use Rattle.decode_frame.specs.Answer.{frame_refusal}
 use Rattle.decode_frame.proofs.Answers.{played-answer}
-use Rattle.decode_frame.proofs.play_lost.Goals.{After-reshaped-t}
+use Rattle.decode_frame.proofs.play_lost.Goals.{After-reshape}
 use Rattle.decode_frame.proofs.play_lost.Goals as goal
 
 -- the frame's length
-samples : (c : After-reshaped-t) → let a = c.args in c.frame_length-n.result ≡ frame_length (shape a.khz a.nb_subfr)
+samples : (c : After-reshape) → let a = c.args in c.frame_length-n.result ≡ frame_length (shape a.khz a.nb_subfr)
 samples c =
     let f = c.ranges in
     c.frame_length-n.ensures ∙ λ i. frame_length (shape (to_z-of_z f.khz i) (to_z-of_z f.nb_subfr i))
 
 -- the state as the coming shape leaves it
-moved : (c : After-reshaped-t) → let a = c.args in c.reshaped-t.result ≡ reshaped a.khz a.nb_subfr a.s
+moved : (c : After-reshape) → let a = c.args in c.reshape.new.s ≡ reshaped a.khz a.nb_subfr a.a.now.state
 moved c =
-    c.reshaped-t.ensures ∙ λ i. reshaped (to_z-of_z c.ranges.khz i) (to_z-of_z c.ranges.nb_subfr i) c.args.s
+    c.reshape.ensures ∙ λ i. reshaped (to_z-of_z c.ranges.khz i) (to_z-of_z c.ranges.nb_subfr i) c.args.a.now.state
 
 -- what no refusal says of the frame
-fit : (c : After-reshaped-t) → LostFits c.reshaped-t.result (length c.args.xq.now)
+fit : (c : After-reshape) → LostFits c.reshape.new.s (length c.args.xq.now)
 unfolding frame_refusal
 fit c =
     let a = c.args in
     let n = length a.xq.now in
-    subst (λ (t : SilkDecoderState). LostFits t n) (sym (moved c)) (lost-fits a.khz a.nb_subfr a.s n c.requires)
+    subst (λ (t : SilkDecoderState). LostFits t n) (sym (moved c)) (lost-fits a.khz a.nb_subfr a.a.now.state n c.requires)
 
-whole : (c : After-reshaped-t) → c.frame_length-n.result ≡ frame_length (shape_of c.reshaped-t.result)
+whole : (c : After-reshape) → c.frame_length-n.result ≡ frame_length (shape_of c.reshape.new.s)
 unfolding reshaped reshaped_by
 whole c = samples c ∙ sym (ap (λ (t : SilkDecoderState). frame_length (shape_of t)) (moved c))
 
 pub slice_bounds-lost-end : goal.slice_bounds-lost-end
 slice_bounds-lost-end c =
-    let o = (goal.at.slice_bounds-lost-end c).After-reshaped-t in
+    let o = (goal.at.slice_bounds-lost-end c).After-reshape in
     let w = whole o in
     let h = (fit o).output_lent in
     omega (arith, w, h)
 
 pub slice_bounds-lost-end-2 : goal.slice_bounds-lost-end-2
 slice_bounds-lost-end-2 c =
-    let o = (goal.at.slice_bounds-lost-end-2 c).After-reshaped-t in
+    let o = (goal.at.slice_bounds-lost-end-2 c).After-reshape in
     let w = whole o in
     let h = (fit o).output_lent in
     sym (length-take-le _ _ (omega (arith, w, h)))
 
 pub lost-requires : goal.lost-requires
 lost-requires c =
-    let o = (goal.at.lost-requires c).After-reshaped-t in
+    let o = (goal.at.lost-requires c).After-reshape in
     let f = fit o in
     let l = whole o in
     let h = f.output_lent in
@@ -67,8 +67,8 @@ lost-requires c =
 pub returns : goal.returns
 unfolding whole_frame reshaped reshaped_by
 returns c =
-    let o = (goal.at.returns c).After-reshaped-t in
+    let o = (goal.at.returns c).After-reshape in
     let a = c.args in
-    played-answer a.s (frame_call a.khz a.nb_subfr Lost a.c [] [] [] a.xq.now) (sym (accepted _ c.requires)) _ _
-    (c.lost.ensures ∙ ap (λ (t : SilkDecoderState). muted (shape_of t) (squelched t) (lost (shape_of t) t a.c)) (moved o))
+    played-answer a.a.now.state (frame_call a.khz a.nb_subfr Lost a.a.now.control [] [] [] a.xq.now) (sym (accepted _ c.requires)) _ _
+    (c.lost.ensures ∙ ap (λ (t : SilkDecoderState). muted (shape_of t) (squelched t) (lost (shape_of t) t a.a.now.control)) (moved o))
     (samples o)

@@ -15,61 +15,61 @@ use Rattle.decode_frame.specs.WholeFrame.{received, whole_frame}
 use Rattle.decode_frame.specs.Call.{frame_call}
 use Rattle.decode_frame.specs.Answer.{frame_refusal}
 use Rattle.decode_frame.proofs.Answers.{played-answer}
-use Rattle.decode_frame.proofs.play_received.Goals.{After-reshaped-t}
+use Rattle.decode_frame.proofs.play_received.Goals.{After-reshape}
 use Rattle.decode_frame.proofs.play_received.Goals as goal
 
 -- the frame's length
-samples : (c : After-reshaped-t) → let a = c.args in c.frame_length-n.result ≡ frame_length (shape a.khz a.nb_subfr)
+samples : (c : After-reshape) → let a = c.args in c.frame_length-n.result ≡ frame_length (shape a.khz a.nb_subfr)
 samples c =
     let f = c.ranges in
     c.frame_length-n.ensures ∙ λ i. frame_length (shape (to_z-of_z f.khz i) (to_z-of_z f.nb_subfr i))
 
 -- the state as the coming shape leaves it
-moved : (c : After-reshaped-t) → let a = c.args in c.reshaped-t.result ≡ reshaped a.khz a.nb_subfr a.s
+moved : (c : After-reshape) → let a = c.args in c.reshape.new.s ≡ reshaped a.khz a.nb_subfr a.a.now.state
 moved c =
-    c.reshaped-t.ensures ∙ λ i. reshaped (to_z-of_z c.ranges.khz i) (to_z-of_z c.ranges.nb_subfr i) c.args.s
+    c.reshape.ensures ∙ λ i. reshaped (to_z-of_z c.ranges.khz i) (to_z-of_z c.ranges.nb_subfr i) c.args.a.now.state
 
 -- what no refusal says of the frame
-fit : (c : After-reshaped-t) → let a = c.args in ReceivedFits c.reshaped-t.result a.q a.c a.lines (length a.pulses.now) (length a.xq.now)
+fit : (c : After-reshape) → let a = c.args in ReceivedFits c.reshape.new.s a.q a.a.now.control a.lines (length a.pulses.now) (length a.xq.now)
 unfolding frame_refusal
 fit c =
     let a = c.args in
     let m = length a.pulses.now in
     let n = length a.xq.now in
-    subst (λ (t : SilkDecoderState). ReceivedFits t a.q a.c a.lines m n) (sym (moved c)) (received-fits a.khz a.nb_subfr a.s a.q a.c a.lines m n c.requires)
+    subst (λ (t : SilkDecoderState). ReceivedFits t a.q a.a.now.control a.lines m n) (sym (moved c)) (received-fits a.khz a.nb_subfr a.a.now.state a.q a.a.now.control a.lines m n c.requires)
 
-whole : (c : After-reshaped-t) → c.frame_length-n.result ≡ frame_length (shape_of c.reshaped-t.result)
+whole : (c : After-reshape) → c.frame_length-n.result ≡ frame_length (shape_of c.reshape.new.s)
 unfolding reshaped reshaped_by
 whole c = samples c ∙ sym (ap (λ (t : SilkDecoderState). frame_length (shape_of t)) (moved c))
 
 pub slice_bounds-received-end : goal.slice_bounds-received-end
 slice_bounds-received-end c =
-    let o = (goal.at.slice_bounds-received-end c).After-reshaped-t in
+    let o = (goal.at.slice_bounds-received-end c).After-reshape in
     let w = whole o in
     let h = (fit o).core.output_lent in
     omega (arith, w, h)
 
 pub slice_bounds-received-end-2 : goal.slice_bounds-received-end-2
 slice_bounds-received-end-2 c =
-    let o = (goal.at.slice_bounds-received-end-2 c).After-reshaped-t in
+    let o = (goal.at.slice_bounds-received-end-2 c).After-reshape in
     let w = whole o in
     let h = (fit o).core.output_lent in
     sym (length-take-le _ _ (omega (arith, w, h)))
 
 pub received-requires : goal.received-requires
 received-requires c =
-    let o = (goal.at.received-requires c).After-reshaped-t in
+    let o = (goal.at.received-requires c).After-reshape in
     let f = (fit o).core in
     let a = c.args in
     let l = whole o in
     let h = f.output_lent in
-    (f.accepted, framed c.reshaped-t.result _ a.c (length a.pulses.now) (length a.xq.now) f, f.pulses_lent, length-take-le _ _ (omega (arith, l, h)) ∙ l)
+    (f.accepted, framed c.reshape.new.s _ a.a.now.control (length a.pulses.now) (length a.xq.now) f, f.pulses_lent, length-take-le _ _ (omega (arith, l, h)) ∙ l)
 
 pub returns : goal.returns
 unfolding whole_frame reshaped reshaped_by
 returns c =
-    let o = (goal.at.returns c).After-reshaped-t in
+    let o = (goal.at.returns c).After-reshape in
     let a = c.args in
-    played-answer a.s (frame_call a.khz a.nb_subfr (Received a.q) a.c a.rows a.lines a.pulses.now a.xq.now) (sym (accepted _ c.requires)) _ _
-    (c.received.ensures ∙ ap (λ (t : SilkDecoderState). received (shape_of t) t a.q a.c a.rows a.lines a.pulses.now) (moved o))
+    played-answer a.a.now.state (frame_call a.khz a.nb_subfr (Received a.q) a.a.now.control a.rows a.lines a.pulses.now a.xq.now) (sym (accepted _ c.requires)) _ _
+    (c.received.ensures ∙ ap (λ (t : SilkDecoderState). received (shape_of t) t a.q a.a.now.control a.rows a.lines a.pulses.now) (moved o))
     (samples o)

@@ -1,3 +1,4 @@
+use borrow.Author.Rules.{rules}
 use mir.Syntax.{w32}
 use mir.Facts.{to_z-of_z}
 use Rattle.word.proofs.Words.{kept}
@@ -20,6 +21,6 @@ returns c =
       c.within.ensures,
       c.lines_fit.ensures,
       to_z-of_z c.ranges.khz,
-      kept w32 c.args.h.fs_khz c.struct_told-2-1.given.1.1.1.1.1.0.1,
-      kept w32 c.args.h.cng_smth_gain_q16 c.struct_told-1.given.1.1.1.0.1,
+      kept w32 c.args.h.now.fs_khz (search rules),
+      kept w32 c.args.h.now.cng_smth_gain_q16 (search rules),
     )

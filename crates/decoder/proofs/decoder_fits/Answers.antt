@@ -1,3 +1,4 @@
+use borrow.Author.Rules.{rules}
 use mir.Syntax.{w32}
 use mir.Facts.{to_z-of_z}
 use Rattle.word.proofs.Words.{kept}
@@ -23,11 +24,11 @@ returns c nb =
       c.is_lag.ensures,
       kept w32 c.chosen-lag.result c.chosen-lag.type_inv,
       c.chosen-lag.ensures,
-      same_bits w32 c.args.khz c.args.s.fs_khz c.ranges.khz (record { sfits = c.struct_told-1.given.1.1.1.1.1.0.1 }),
-      kept w32 c.args.s.prev_gain_q16 c.struct_told-7-1.given.0.1,
-      kept w32 c.args.s.loss_cnt c.struct_told-4-1.given.1.1.1.1.1.1.1.1.1.1.1.1.1.1.0.1,
-      kept w32 c.args.s.first_frame_after_reset c.struct_told-4-1.given.1.1.1.1.1.1.1.1.1.1.1.1.0.1,
-      kept w32 c.args.s.prev_signal_type c.struct_told-3-1.given.1.1.1.1.1.1.1.1.1.1.1.1.1.1.1.0.1,
-      kept w32 c.args.s.lag_prev c.struct_told-2-1.given.1.1.1.1.0.1,
+      same_bits w32 c.args.khz c.args.s.now.fs_khz c.ranges.khz (record { sfits = (search rules) }),
+      kept w32 c.args.s.now.prev_gain_q16 (search rules),
+      kept w32 c.args.s.now.loss_cnt (search rules),
+      kept w32 c.args.s.now.first_frame_after_reset (search rules),
+      kept w32 c.args.s.now.prev_signal_type (search rules),
+      kept w32 c.args.s.now.lag_prev (search rules),
       to_z-of_z c.ranges.khz,
     )

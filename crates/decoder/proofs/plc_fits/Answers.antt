@@ -1,3 +1,4 @@
+use borrow.Author.Rules.{rules}
 use mir.Syntax.{w16, w32}
 use mir.Facts.{to_z-of_z}
 use Rattle.word.proofs.Words.{kept}
@@ -27,10 +28,10 @@ returns c =
       c.taps_held.ensures,
       c.within.ensures,
       to_z-of_z c.ranges.khz,
-      kept w32 c.args.h.fs_khz c.struct_told-6-1.given.1.1.1.1.1.1.1.1.1.1.0.1,
-      kept w32 c.args.h.conc_energy_shift c.struct_told-5-1.given.1.1.1.1.1.1.1.0.1,
-      kept w32 c.args.h.conc_energy c.struct_told-4-1.given.1.1.1.1.1.1.0.1,
-      kept w16 c.args.h.prev_ltp_scale_q14 c.struct_told-3-1.given.1.1.1.1.1.1.1.1.0.1,
-      kept w16 c.args.h.rand_scale_q14 c.struct_told-2-1.given.1.1.1.1.1.0.1,
-      kept w32 c.args.h.last_frame_lost c.struct_told-1.given.1.1.1.0.1,
+      kept w32 c.args.h.now.fs_khz (search rules),
+      kept w32 c.args.h.now.conc_energy_shift (search rules),
+      kept w32 c.args.h.now.conc_energy (search rules),
+      kept w16 c.args.h.now.prev_ltp_scale_q14 (search rules),
+      kept w16 c.args.h.now.rand_scale_q14 (search rules),
+      kept w32 c.args.h.now.last_frame_lost (search rules),
     )

@@ -1,6 +1,5 @@
+use borrow.Author.Rules.{rules}
 use Rattle.std.proofs.lemmas.List.{map-id}
-use mathlib.Core.Path.{sym}
-use native.Mathlib.Nat.{le_of_eq}
 use mir.Syntax.{w32}
 use mir.Facts.{to_z-of_z}
 use Rattle.word.proofs.Words.{kept}
@@ -8,10 +7,6 @@ use Rattle.decoder.specs.Ranges.{plc_held}
 use lib.Dec.{lit≤}
 use Rattle.decoder.proofs.Tests.{lag_q8}
 use Rattle.decoder.proofs.plc_held.Goals as goal
-
-pub all_within-requires : goal.all_within-requires
-all_within-requires c =
-    le_of_eq (sym c.struct_told-1.given.1.1.1.1.1.1.1.1.1.0.1.0.1)
 
 pub returns : goal.returns
 unfolding plc_held
@@ -32,7 +27,7 @@ returns c =
       to_z-of_z c.ranges.khz,
       lag_q8 2 c.args.khz (lit≤ tt),
       lag_q8 18 c.args.khz (lit≤ tt),
-      kept w32 c.args.h.subfr_length c.struct_told-3-1.given.1.1.1.1.1.1.1.1.1.1.1.1.0.1,
-      kept w32 c.args.h.nb_subfr c.struct_told-2-1.given.1.1.1.1.1.1.1.1.1.1.1.0.1,
-      kept w32 c.args.h.pitch_l_q8 c.struct_told-1.given.0.1,
+      kept w32 c.args.h.now.subfr_length (search rules),
+      kept w32 c.args.h.now.nb_subfr (search rules),
+      kept w32 c.args.h.now.pitch_l_q8 (search rules),
     )

@@ -1,3 +1,4 @@
+use borrow.Author.Rules.{rules}
 use mir.Syntax.{w32}
 use Rattle.word.proofs.Words.{kept}
 use Rattle.decoder.specs.Rows.{size_row}
@@ -30,10 +31,10 @@ returns c =
       c.equals.ensures,
       c.frame_length.ensures,
       c.is_count.ensures,
-      kept w32 c.args.s.lpc_order c.struct_told-7-1.given.1.1.1.1.1.1.1.1.1.1.0.1,
-      kept w32 c.args.s.ltp_mem_length c.struct_told-6-1.given.1.1.1.1.1.1.1.1.1.0.1,
-      kept w32 c.args.s.subfr_length c.struct_told-5-1.given.1.1.1.1.1.1.1.1.0.1,
-      kept w32 c.args.s.frame_length c.struct_told-4-1.given.1.1.1.1.1.1.1.0.1,
-      kept w32 c.args.s.nb_subfr c.struct_told-3-1.given.1.1.1.1.1.1.0.1,
-      kept w32 c.args.s.fs_khz c.struct_told-1.given.1.1.1.1.1.0.1,
+      kept w32 c.args.s.now.lpc_order (search rules),
+      kept w32 c.args.s.now.ltp_mem_length (search rules),
+      kept w32 c.args.s.now.subfr_length (search rules),
+      kept w32 c.args.s.now.frame_length (search rules),
+      kept w32 c.args.s.now.nb_subfr (search rules),
+      kept w32 c.args.s.now.fs_khz (search rules),
     )

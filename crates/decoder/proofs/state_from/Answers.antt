@@ -7,5 +7,5 @@ use Rattle.decoder.proofs.state_from.Goals as goal
 pub returns : goal.returns
 unfolding state_from
 returns c =
-    let e = c.with_shape-t.ensures ∙ λ i. with_shape (c.silk_default.ensures i) (to_z-of_z c.ranges.khz i) (to_z-of_z c.ranges.nb_subfr i) in
+    let e = c.with_shape.ensures ∙ λ i. with_shape (c.silk_default-t.ensures i) (to_z-of_z c.ranges.khz i) (to_z-of_z c.ranges.nb_subfr i) in
     λ i. with_settings (e i) c.args.settings

@@ -29,4 +29,4 @@ returns c =
     let subfr = kept w32 c.length_number-subfr_length.result c.length_number-subfr_length.type_inv ∙ c.length_number-subfr_length.ensures ∙ ap pos c.subfr_length.ensures ∙ λ i. pos (subfr_length (shape (khz i) (nb i))) in
     let mem = kept w32 c.length_number-ltp_mem_length.result c.length_number-ltp_mem_length.type_inv ∙ c.length_number-ltp_mem_length.ensures ∙ ap pos c.ltp_mem_length.ensures ∙ λ i. pos (mem_length (shape (khz i) (nb i))) in
     let order = kept w32 c.length_number-lpc_order.result c.length_number-lpc_order.type_inv ∙ c.length_number-lpc_order.ensures ∙ ap pos c.lpc_order.ensures ∙ λ i. pos (lpc_order (shape (khz i) (nb i))) in
-    λ i. with_sizes c.args.s (khz i) (nb i) (frame i) (subfr i) (mem i) (order i)
+    λ i. with_sizes c.args.s.now (khz i) (nb i) (frame i) (subfr i) (mem i) (order i)

@@ -2,7 +2,6 @@ use mathlib.Core.Path.{refl}
 use native.Mathlib.Numerals.{add-one}
 use native.Mathlib.Nat.{le_antisymm}
 use native.Mathlib.Omega.{arith}
-use borrow.Author.Rules.{rules}
 use lib.IntN.{pos}
 use lib.ListN.{length, get_or}
 use mir.Syntax.{w16, w32}
@@ -17,10 +16,6 @@ use Rattle.excitation.proofs.excite.Goals as goal
 pub loop-i-init : goal.loop-i-init
 unfolding generator_at excitation
 loop-i-init c = (refl, refl)
-
-pub excited-requires : goal.excited-requires
-excited-requires c =
-    rw (to_z-of_z c.ranges.offset) c.requires.1
 
 pub loop-i-preserved : goal.loop-i-preserved
 unfolding generator_at

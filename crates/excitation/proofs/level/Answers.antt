@@ -1,5 +1,5 @@
 use mathlib.Core.Path.{refl, sym, ap, ◌∙◌}
-use lib.IntN.{pos, negsuc, ◌*ℤ◌, +ℤ_idr}
+use lib.IntN.{pos, ◌*ℤ◌, +ℤ_idr}
 use mir.Syntax.{w32}
 use mir.Facts.{to_z-of_z}
 use Rattle.word.specs.Int.{wrap32}
@@ -8,21 +8,6 @@ use Rattle.word.proofs.Order.{lt_read_l, lt_read_r}
 use Rattle.excitation.specs.Excitation.{level}
 use Rattle.excitation.proofs.Samples.{level-word}
 use Rattle.excitation.proofs.level.Goals as goal
-
-pub returns-then-p-gt0 : goal.returns-then-p-gt0
-unfolding level
-returns-then-p-gt0 c =
-    let e = lt_read_r (pos 0) c.ranges.p c.if-p-gt0.true in
-    rw (kept w32 _ c.sub32.type_inv, c.sub32.ensures, kept w32 _ c.shl32-q.type_inv, c.shl32-q.ensures, kept w32 _ c.wide16.type_inv, c.wide16.ensures, to_z-of_z c.ranges.p)
-    (level-word c.args.p (pos 1280) c.ranges.p (rw e refl))
-
-pub returns-then-p-lt0 : goal.returns-then-p-lt0
-unfolding level
-returns-then-p-lt0 c =
-    let e = lt_read_r (pos 0) c.ranges.p c.if-p-gt0.false in
-    let f = lt_read_l (pos 0) c.ranges.p c.if-p-lt0.true in
-    rw (kept w32 _ c.add32.type_inv, c.add32.ensures, kept w32 _ c.shl32-q.type_inv, c.shl32-q.ensures, kept w32 _ c.wide16.type_inv, c.wide16.ensures, to_z-of_z c.ranges.p)
-    (level-word c.args.p (negsuc 1279) c.ranges.p (rw (e, f) refl))
 
 pub returns-else-p-lt0 : goal.returns-else-p-lt0
 unfolding level

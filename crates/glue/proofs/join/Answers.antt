@@ -1,11 +1,13 @@
-use mathlib.Core.Path.{◌≡◌, refl, ◌∙◌}
+use Prim.Native.Nat.{◌≤◌}
+use mathlib.Core.Path.{◌≡◌, refl, sym, ap, subst, ◌∙◌}
 use native.Mathlib.Omega.{arith}
+use borrow.Author.Rules.{rules}
 use lib.IntN.{ℤ, pos, nat_abs}
 use lib.ListN.{length}
 use mathlib.Core.List.{List}
 use mir.Syntax.{w32}
 use mir.Val.{to_z, of_z}
-use mir.Facts.{to_z-of_z, to_z_pos}
+use mir.Facts.{to_z_pos}
 use Rattle.word.proofs.Words.{kept}
 use Rattle.sigproc.specs.Energy.{energy_at, energy_shift, sum_sqr_shift}
 use Rattle.sigproc.specs.declared.Energy.{Energy}
@@ -23,28 +25,36 @@ shift_is : (x : List ℤ) (e : Energy) → e ≡ sum_sqr_shift x → to_z w32 (o
 unfolding sum_sqr_shift
 shift_is x e p k = k ∙ rw p
 
-received : (x : List ℤ) (e : Energy) (held r : ℤ) → to_z w32 (of_z w32 e.energy) ≡ pos (energy_at x (energy_shift x)) → to_z w32 (of_z w32 e.shift) ≡ pos (energy_shift x)
-    → to_z w32 (of_z w32 held) ≡ held
-    → to_z w32 (of_z w32 r) ≡ pos (lowered (to_z w32 (of_z w32 e.energy)) (nat_abs (to_z w32 (of_z w32 held))) (nat_abs (to_z w32 (of_z w32 e.shift))))
-    → to_z w32 (of_z w32 r) ≡ pos (lowered (pos (energy_at x (energy_shift x))) (nat_abs held) (energy_shift x))
-received x e held r p q h k = rw (p, q, h) at k
+energy : (c : After-lowered-concealed) → let x = c.args.frame.now in to_z w32 (of_z w32 c.silk_sum_sqr_shift-e.result.energy) ≡ pos (energy_at x (energy_shift x))
+energy c = energy_is c.args.frame.now c.silk_sum_sqr_shift-e.result c.silk_sum_sqr_shift-e.ensures (kept w32 _ (search rules))
 
-concealed : (c : After-lowered-concealed) → let a = c.args in to_z w32 (of_z w32 c.lowered-concealed.result) ≡ pos (lowered a.energy (energy_shift a.frame.now) (nat_abs a.held))
-concealed c =
-    kept w32 c.lowered-concealed.result c.lowered-concealed.type_inv
-    ∙ c.lowered-concealed.ensures
-    ∙ rw (to_z-of_z c.ranges.energy, to_z-of_z c.ranges.held, shift_is c.args.frame.now c.silk_sum_sqr_shift-e.result c.silk_sum_sqr_shift-e.ensures (kept w32 _ c.struct_told-2-1.given.1.0.1))
+shift : (c : After-lowered-concealed) → to_z w32 (of_z w32 c.silk_sum_sqr_shift-e.result.shift) ≡ pos (energy_shift c.args.frame.now)
+shift c = shift_is c.args.frame.now c.silk_sum_sqr_shift-e.result c.silk_sum_sqr_shift-e.ensures (kept w32 _ (search rules))
 
-pub lowered-received-requires : goal.lowered-received-requires
-lowered-received-requires c =
-    rw (energy_is c.args.frame.now c.silk_sum_sqr_shift-e.result c.silk_sum_sqr_shift-e.ensures (kept w32 _ c.struct_told-1.given.0.1), to_z-of_z c.ranges.held, shift_is c.args.frame.now c.silk_sum_sqr_shift-e.result c.silk_sum_sqr_shift-e.ensures (kept w32 _ c.struct_told-2-1.given.1.0.1)) (refl, c.requires.3, c.requires.4, refl, shift_most c.args.frame.now c.requires.1)
+-- both energies at the larger shift
+received : (c : After-lowered-concealed) → let a = c.args in let x = a.frame.now in to_z w32 (of_z w32 c.lowered-received.result) ≡ pos (lowered (pos (energy_at x (energy_shift x))) (nat_abs a.held.shift) (energy_shift x))
+received c = kept w32 _ c.lowered-received.type_inv ∙ c.lowered-received.ensures ∙ rw (energy c, shift c) refl
 
-pub lowered-concealed-requires : goal.lowered-concealed-requires
-lowered-concealed-requires c =
-    rw (to_z-of_z c.ranges.energy, to_z-of_z c.ranges.held, shift_is c.args.frame.now c.silk_sum_sqr_shift-e.result c.silk_sum_sqr_shift-e.ensures (kept w32 _ c.struct_told-2-1.given.1.0.1)) (c.requires.2, refl, shift_most c.args.frame.now c.requires.1, c.requires.3, c.requires.4)
+concealed : (c : After-lowered-concealed) → let a = c.args in to_z w32 (of_z w32 c.lowered-concealed.result) ≡ pos (lowered a.held.energy (energy_shift a.frame.now) (nat_abs a.held.shift))
+concealed c = kept w32 _ c.lowered-concealed.type_inv ∙ c.lowered-concealed.ensures ∙ rw (shift c) refl
+
+-- the frame's energy is not negative, and its shift small
+pub invariant_of-own : goal.invariant_of-own
+invariant_of-own c =
+    let x = c.args.frame.now in
+    let e = c.silk_sum_sqr_shift-e in
+    let p = energy_is x e.result e.ensures (kept w32 _ (search rules)) in
+    let q = shift_is x e.result e.ensures (kept w32 _ (search rules)) in
+    record {
+      natural = p ∙ ap (λ (z : ℤ). pos (nat_abs z)) (sym p);
+      places = q ∙ ap (λ (z : ℤ). pos (nat_abs z)) (sym q);
+      most = subst (λ (z : ℤ). nat_abs z ≤ 31) (sym q) (shift_most x c.requires.1);
+    }
 
 pub start_gain-gain-requires : goal.start_gain-gain-requires
-start_gain-gain-requires c = rw (concealed c.before, received c.args.frame.now c.silk_sum_sqr_shift-e.result c.args.held c.lowered-received.result (energy_is c.args.frame.now c.silk_sum_sqr_shift-e.result c.silk_sum_sqr_shift-e.ensures (kept w32 _ c.struct_told-1.given.0.1)) (shift_is c.args.frame.now c.silk_sum_sqr_shift-e.result c.silk_sum_sqr_shift-e.ensures (kept w32 _ c.struct_told-2-1.given.1.0.1)) (to_z-of_z c.ranges.held) (kept w32 _ c.lowered-received.type_inv ∙ c.lowered-received.ensures)) (refl, refl)
+start_gain-gain-requires c =
+    let o = (goal.at.start_gain-gain-requires c).After-lowered-concealed in
+    rw (concealed o, received o) (refl, refl)
 
 pub slope_of-slope-requires : goal.slope_of-slope-requires
 slope_of-slope-requires c =
@@ -53,8 +63,9 @@ slope_of-slope-requires c =
 pub returns-then-concealed-received : goal.returns-then-concealed-received
 unfolding joined
 returns-then-concealed-received c =
-    let k = concealed c.before.before.before.before.before.before in
-    let q = received c.args.frame.now c.silk_sum_sqr_shift-e.result c.args.held c.lowered-received.result (energy_is c.args.frame.now c.silk_sum_sqr_shift-e.result c.silk_sum_sqr_shift-e.ensures (kept w32 _ c.struct_told-1.given.0.1)) (shift_is c.args.frame.now c.silk_sum_sqr_shift-e.result c.silk_sum_sqr_shift-e.ensures (kept w32 _ c.struct_told-2-1.given.1.0.1)) (to_z-of_z c.ranges.held) (kept w32 _ c.lowered-received.type_inv ∙ c.lowered-received.ensures) in
+    let o = (goal.at.returns-then-concealed-received c).After-lowered-concealed in
+    let k = concealed o in
+    let q = received o in
     let gain = kept w32 c.start_gain-gain.result c.start_gain-gain.type_inv ∙ c.start_gain-gain.ensures in
     rw (
       c.ramp.ensures,
@@ -70,4 +81,5 @@ returns-then-concealed-received c =
 pub returns-else-concealed-received : goal.returns-else-concealed-received
 unfolding joined
 returns-else-concealed-received c =
-    rw (rw (concealed c.before, received c.args.frame.now c.silk_sum_sqr_shift-e.result c.args.held c.lowered-received.result (energy_is c.args.frame.now c.silk_sum_sqr_shift-e.result c.silk_sum_sqr_shift-e.ensures (kept w32 _ c.struct_told-1.given.0.1)) (shift_is c.args.frame.now c.silk_sum_sqr_shift-e.result c.silk_sum_sqr_shift-e.ensures (kept w32 _ c.struct_told-2-1.given.1.0.1)) (to_z-of_z c.ranges.held) (kept w32 _ c.lowered-received.type_inv ∙ c.lowered-received.ensures)) at c.if-concealed-received.false) refl
+    let o = (goal.at.returns-else-concealed-received c).After-lowered-concealed in
+    rw (rw (concealed o, received o) at c.if-concealed-received.false) refl

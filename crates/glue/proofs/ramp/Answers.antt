@@ -2,7 +2,6 @@ use mathlib.Core.Path.{◌≡◌, refl, sym, ◌∙◌}
 use mathlib.Core.List.{append-nil}
 use native.Mathlib.Numerals.{add-one}
 use native.Mathlib.Omega.{arith}
-use borrow.Author.Rules.{rules}
 use lib.IntN.{pos, ◌+ℤ◌}
 use lib.ListN.{get_or, drop_of_length-le}
 use lib.Seq.{take_all}

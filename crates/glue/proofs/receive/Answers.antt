@@ -1,4 +1,5 @@
 use mathlib.Core.Path.{refl}
+use borrow.Author.Rules.{rules}
 use lib.Dec.{lit<}
 use mir.Syntax.{w32}
 use mir.Val.{SFits}
@@ -9,7 +10,7 @@ use Rattle.glue.proofs.receive.Goals as goal
 pub returns-then-h-eq0 : goal.returns-then-h-eq0
 returns-then-h-eq0 c =
     let h = c.args.h in
-    let f : SFits w32 h.last_frame_lost = record { sfits = c.struct_told-1.given.1.1.1.0.1 } in
+    let f : SFits w32 h.last_frame_lost = record { sfits = search rules } in
     (refl, rw (is w32 h.last_frame_lost 0 (lit< tt) f c.if-h-eq0.true) refl)
 
 pub returns : goal.returns
@@ -18,8 +19,8 @@ returns c =
       refl,
       rw (
         c.join.ensures,
-        kept w32 h.conc_energy c.struct_told-2-1.given.1.1.1.1.1.1.0.1,
-        kept w32 h.conc_energy_shift c.struct_told-3-1.given.1.1.1.1.1.1.1.0.1,
+        kept w32 h.conc_energy (search rules),
+        kept w32 h.conc_energy_shift (search rules),
         isnt w32 h.last_frame_lost 0 c.if-h-eq0.false,
       ),
     )

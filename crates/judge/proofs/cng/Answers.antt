@@ -10,16 +10,16 @@ pub equals-requires : goal.equals-requires
 equals-requires c = lit< tt
 
 pub returns-in_err-state_rows : goal.returns-in_err-state_rows
-returns-in_err-state_rows c = run_stops (state_rows c.args.s) _ c.state_rows.ensures c.in_err-state_rows.was c.from_residual.ensures.1
+returns-in_err-state_rows c = run_stops (state_rows c.args.s.now) _ c.state_rows.ensures c.in_err-state_rows.was c.from_residual.ensures.1
 
 pub returns-in_err-refuse_if : goal.returns-in_err-refuse_if
 returns-in_err-refuse_if c =
-    let s = c.args.s in
+    let s = c.args.s.now in
     run_passes (state_rows s) _ c.state_rows.ensures c.in_ok-state_rows.was
     (row_stops _ _ c.refuse_if.ensures (rw (c.equals.ensures, c.gain_row.ensures, kept w32 s.loss_cnt (search rules), kept w32 s.nb_subfr (search rules))) c.in_err-refuse_if.was c.from_residual-in_err-refuse_if.ensures.1)
 
 pub returns : goal.returns
 returns c =
-    let s = c.args.s in
+    let s = c.args.s.now in
     run_passes (state_rows s) _ c.state_rows.ensures c.in_ok-state_rows.was
     (row_passes _ _ c.refuse_if.ensures (rw (c.equals.ensures, c.gain_row.ensures, kept w32 s.loss_cnt (search rules), kept w32 s.nb_subfr (search rules))) c.in_ok-refuse_if.was (rw (c.refuse_if-2.ensures, c.length_row.ensures)))

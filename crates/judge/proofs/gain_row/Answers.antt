@@ -12,7 +12,7 @@ use Rattle.judge.proofs.gain_row.Goals as goal
 
 pub all_within-requires : goal.all_within-requires
 all_within-requires c =
-    let n : length c.args.c.gains_q16 ≡ 4 = search rules in
+    let n : length c.args.c.now.gains_q16 ≡ 4 = search rules in
     omega (arith, c.count_of.ensures, count_le (to_z w32 (of_z w32 c.args.nb_subfr)))
 
 pub returns : goal.returns

@@ -14,7 +14,7 @@ use Rattle.judge.proofs.lag_row.Goals as goal
 
 pub all_within-ok-requires : goal.all_within-ok-requires
 all_within-ok-requires c =
-    let n : length c.args.c.pitch_l ≡ 4 = search rules in
+    let n : length c.args.c.now.pitch_l ≡ 4 = search rules in
     omega (arith, c.count_of.ensures, count_le (to_z w32 (of_z w32 c.args.nb_subfr)))
 
 pub returns : goal.returns

@@ -6,9 +6,9 @@ use Rattle.decoder.specs.Rows.{state_rows}
 use Rattle.judge.proofs.plc_received.Goals as goal
 
 pub returns-in_err-state_rows : goal.returns-in_err-state_rows
-returns-in_err-state_rows c = run_stops (state_rows c.args.s) _ c.state_rows.ensures c.in_err-state_rows.was c.from_residual.ensures.1
+returns-in_err-state_rows c = run_stops (state_rows c.args.s.now) _ c.state_rows.ensures c.in_err-state_rows.was c.from_residual.ensures.1
 
 pub returns : goal.returns
 returns c =
-    let s = c.args.s in
+    let s = c.args.s.now in
     run_passes (state_rows s) _ c.state_rows.ensures c.in_ok-state_rows.was (rw (c.param_rows.ensures, kept w32 s.fs_khz (search rules), kept w32 s.nb_subfr (search rules)))

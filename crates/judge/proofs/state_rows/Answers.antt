@@ -6,5 +6,5 @@ use Rattle.judge.proofs.state_rows.Goals as goal
 
 pub returns : goal.returns
 returns c =
-    let s = c.args.s in
+    let s = c.args.s.now in
     rw (c.coming_rows.ensures, kept w32 s.fs_khz (search rules), kept w32 s.nb_subfr (search rules)) (held_rows s)

@@ -1,3 +1,4 @@
+use borrow.Author.Rules.{rules}
 use native.Mathlib.Omega.{arith}
 use mir.Syntax.{w32}
 use mir.Val.{to_z, of_z}
@@ -16,7 +17,7 @@ unfolding taps_row
 returns c =
     rw (
       c.within.ensures,
-      kept w32 _ c.struct_told-1.given.1.1.1.0.1,
+      kept w32 c.args.c.now.ltp_scale_q14 (search rules),
       only-or c.is_voiced.result c.taps_fit.result,
       c.is_voiced.ensures,
       c.taps_fit.ensures,

@@ -7,7 +7,6 @@ use mir.Val.{to_z, of_z}
 use mir.Facts.{to_z-of_z}
 use Rattle.word.specs.Int.{floor_div}
 use Rattle.word.proofs.Words.{kept}
-use Rattle.macros.specs.Quotient.{first_inverse}
 use Rattle.macros.proofs.Normal.{quot_fits}
 use Rattle.macros.proofs.first_inverse.Goals.{After-shr32}
 use Rattle.macros.proofs.first_inverse.Goals as goal
@@ -18,8 +17,3 @@ divisor c = cc (to_z-of_z c.ranges.n, kept w32 c.shr32.result c.shr32.type_inv)
 
 pub silk_div32-requires : goal.silk_div32-requires
 silk_div32-requires c = rw (divisor c) (c.requires, quot_fits (pos 536870911) (floor_div c.args.n (2 ^ 16)) (lit< tt))
-
-pub returns : goal.returns
-unfolding first_inverse
-returns c =
-    cc (kept w32 c.silk_div32.result c.silk_div32.type_inv, divisor c.before)

@@ -1,6 +1,6 @@
 use mathlib.Core.Path.{◌≡◌}
 use mathlib.Core.Bool.{false}
-use lib.IntN.{pos, neg_ℤ, ◌+ℤ◌, ◌-ℤ◌}
+use lib.IntN.{pos, ◌+ℤ◌, ◌-ℤ◌}
 use lib.Signed.{le_z}
 use mir.Syntax.{w32, w64}
 use mir.Val.{to_z, of_z}
@@ -29,19 +29,6 @@ summed c =
       kept w64 c.low_bit.result c.low_bit.type_inv,
       mod_wrap_64 (c.args.shift -ℤ pos 1),
     )
-
-pub returns-then-shift-le0 : goal.returns-then-shift-le0
-unfolding rshift_round64
-returns-then-shift-le0 c =
-    let f = c.ranges in
-    rw (le_read_l (pos 0) f.shift c.if-shift-le0.true)
-    (cc (
-      to_z-of_z f.a,
-      to_z-of_z f.shift,
-      kept w32 c.neg32.result c.neg32.type_inv,
-      kept w64 c.shl64.result c.shl64.type_inv,
-      mod_wrap_64 (neg_ℤ c.args.shift),
-    ))
 
 pub overflow_add-result : goal.overflow_add-result
 overflow_add-result c =

@@ -21,10 +21,6 @@ parts c =
 zeros : (c : After-struct_told-1) → to_z w32 (of_z w32 c.silk_clz_frac-f.result.lz) ≡ pos (clz32 c.args.x)
 zeros c = kept w32 _ c.struct_told-1.given.0.1 ∙ (parts c.before.before).0
 
-pub returns-then-x-le0 : goal.returns-then-x-le0
-unfolding sqrt_approx
-returns-then-x-le0 c = rw (le_read_l (pos 0) c.ranges.x c.if-x-le0.true) refl
-
 pub sqrt_start-y-requires : goal.sqrt_start-y-requires
 sqrt_start-y-requires c = rw (zeros c) (refl, clz_le c.args.x)
 

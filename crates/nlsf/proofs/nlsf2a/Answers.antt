@@ -6,36 +6,43 @@ use lib.IntN.{pos}
 use lib.ListN.{length, take, drop, replicate}
 use lib.Seq.{length-take-le, take_at}
 use mir.Facts.{to_z-of_z}
+use Rattle.shape.specs.Order.{size}
+use Rattle.shape.proofs.Orders.{size_low, size_high}
 use Rattle.nlsf.specs.Lines.{lpc_coefficients}
 use Rattle.nlsf.specs.Filter.{stabilised, nlsf2a}
 use Rattle.nlsf.specs.Fit.{Fit, lpc_fit}
-use Rattle.nlsf.proofs.Polynomials.{length-coefficients, order_even}
-use Rattle.nlsf.proofs.nlsf2a.Goals.{After-from_lines-a}
+use Rattle.nlsf.proofs.Polynomials.{length-coefficients}
+use Rattle.nlsf.proofs.nlsf2a.Goals.{After-from_cosines-a}
 use Rattle.nlsf.proofs.nlsf2a.Goals as goal
 
 -- the array, in which the coefficients come first
-room : (c : After-from_lines-a) → let d = c.args.d in (d ≤ length c.from_lines-a.result) × (length (take d c.from_lines-a.result) ≡ d) × (10 ≤ d) × (d ≤ 16)
+room : (c : After-from_cosines-a) → let d = size c.args.order in (d ≤ length c.from_cosines-a.result) × (length (take d c.from_cosines-a.result) ≡ d)
 room c =
-    let d = c.args.d in
-    let o = order_even c.requires.0 in
-    let n : length c.from_lines-a.result ≡ 16 = search rules in
-    let h : d ≤ length c.from_lines-a.result = omega arith in
-    (h, length-take-le d c.from_lines-a.result h, o.1, o.2)
+    let d = size c.args.order in
+    let n : length c.from_cosines-a.result ≡ 16 = search rules in
+    let h : d ≤ length c.from_cosines-a.result = omega (arith, size_high c.args.order) in
+    (h, length-take-le d c.from_cosines-a.result h)
 
-pub slice_bounds-a-end : goal.slice_bounds-a-end
-slice_bounds-a-end c = (room c.before).0
+pub slice_bounds-coefs-end : goal.slice_bounds-coefs-end
+slice_bounds-coefs-end c = rw c.size.ensures (sym (room (goal.at.slice_bounds-coefs-end c).After-from_cosines-a).1)
 
-pub slice_bounds-settle-end : goal.slice_bounds-settle-end
-slice_bounds-settle-end c = sym (room c.before.before).1
+pub silk_lpc_fit-requires : goal.silk_lpc_fit-requires
+silk_lpc_fit-requires c =
+    let o = c.args.order in
+    rw c.size.ensures (omega (arith, (room (goal.at.silk_lpc_fit-requires c).After-from_cosines-a).1, size_low o, size_high o))
 
-pub settle-requires : goal.settle-requires
-settle-requires c = omega (arith, room c.before.before)
+pub stabilise-requires : goal.stabilise-requires
+stabilise-requires c =
+    let o = c.args.order in
+    let n : length (take c.size.result c.from_cosines-a.result) ≡ size o = rw c.size.ensures (room (goal.at.stabilise-requires c).After-from_cosines-a).1 in
+    omega (arith, n, c.silk_lpc_fit.auto.a, c.silk_lpc_fit.auto.a_q12, c.requires.0, size_low o, size_high o)
 
 pub returns : goal.returns
-unfolding nlsf2a
+unfolding nlsf2a lpc_coefficients
 returns c =
     let s = c.args in
-    let a = lpc_coefficients s.nlsf.now s.d in
-    let e : take s.d c.from_lines-a.result ≡ a =
-    rw c.from_lines-a.ensures (take_at a (drop s.d (replicate 16 (pos 0))) s.d (length-coefficients s.nlsf.now s.d)) in
-    ap (λ (x : Fit). x.q12) (c.settle.ensures ∙ (λ i. stabilised (to_z-of_z c.ranges.edition i) 16 0 (lpc_fit 10 (e i))))
+    let d = size s.order in
+    let a = lpc_coefficients s.nlsf.now d in
+    let e : take c.size.result c.from_cosines-a.result ≡ a =
+    rw (c.size.ensures, c.from_cosines-a.ensures, c.cosines-c.ensures) (take_at a (drop d (replicate 16 (pos 0))) d (length-coefficients s.nlsf.now d)) in
+    ap (λ (x : Fit). x.q12) (rw (c.silk_lpc_fit.ensures) at c.stabilise.ensures ∙ (λ i. stabilised (to_z-of_z c.ranges.edition i) 16 0 (lpc_fit 10 (e i))))

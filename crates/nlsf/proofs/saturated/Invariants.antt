@@ -7,13 +7,9 @@ use Rattle.word.specs.Int.{sat16}
 use Rattle.nlsf.specs.Fit.{in_q12}
 use Rattle.nlsf.proofs.saturated.Given as goal
 
-abbrev pub near : ℤ → ℤ
-near x = sat16 (in_q12 x)
-
 abbrev pub back : ℤ → ℤ
-back x = near x *ℤ pos (2 ^ 5)
+back x = sat16 (in_q12 x) *ℤ pos (2 ^ 5)
 
-abbrev pub invariant-loop-k : goal.invariant-loop-k
-invariant-loop-k l =
-    (length l.a_q12 ≡ length l.initial.a_q12) × (length l.a ≡ length l.initial.a)
-    × (l.a_q12 ≡ map near (take l.k l.initial.a) ++ drop l.k l.initial.a_q12) × (l.a ≡ map back (take l.k l.initial.a) ++ drop l.k l.initial.a)
+abbrev pub invariant-loop-x : goal.invariant-loop-x
+invariant-loop-x l =
+    (length l.a ≡ length l.initial.a) × (l.a ≡ map back (take l.x-index l.initial.a) ++ drop l.x-index l.initial.a)

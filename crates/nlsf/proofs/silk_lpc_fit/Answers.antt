@@ -9,7 +9,7 @@ use mir.Syntax.{w32}
 use mir.Val.{to_z, of_z}
 use Rattle.word.proofs.Words.{kept, got}
 use Rattle.nlsf.specs.Fit.{maxabs, in_q12}
-use Rattle.nlsf.proofs.Rounds.{length-bwexpander32, maxabs-place, fit-stops, fit-goes_on, fit_ends}
+use Rattle.nlsf.proofs.Rounds.{length-bwexpander32, maxabs-place, fit-stops, fit-goes_on, fit_ends, rounded-saturated}
 use Rattle.nlsf.proofs.silk_lpc_fit.Goals.{After-in_q12-m}
 use Rattle.nlsf.proofs.silk_lpc_fit.Goals as goal
 
@@ -45,4 +45,4 @@ loop-preserved c =
 pub returns : goal.returns
 returns c =
     let e = le_antisymm c.loop.invariant.0 c.loop-test.false in
-    c.saturated.ensures ∙ sym (rw e at c.loop.invariant.3 ∙ fit_ends c.loop.a)
+    rw (c.rounded-2.ensures, c.saturated.ensures, rounded-saturated c.loop.a) (sym (rw e at c.loop.invariant.3 ∙ fit_ends c.loop.a))

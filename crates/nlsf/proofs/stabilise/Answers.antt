@@ -4,8 +4,6 @@ use native.Mathlib.Nat.{le_antisymm}
 use borrow.Author.Rules.{rules}
 use lib.Dec.{lit<}
 use lib.IntN.{pos}
-use lib.ListN.{length}
-use lib.Seq.{take_all}
 use mir.Syntax.{w32}
 use mir.Facts.{to_z-of_z}
 use Rattle.word.specs.Int.{eq_ℤ}
@@ -20,7 +18,7 @@ use Rattle.nlsf.proofs.stabilise.Goals as goal
 -- the inverse gain of the coefficients in Q12
 number : (c : After-inverse_pred_gain) → c.inverse_pred_gain.result ≡ inverse_gain (stability c.args.edition c.loop-i.a_q12)
 number c =
-    rw (c.inverse_pred_gain.ensures, to_z-of_z c.ranges.edition, take_all (length c.loop-i.a) c.loop-i.a_q12 (search rules))
+    rw (c.inverse_pred_gain.ensures, to_z-of_z c.ranges.edition)
 
 pub returns-then-inverse_pred_gain-ne0 : goal.returns-then-inverse_pred_gain-ne0
 returns-then-inverse_pred_gain-ne0 c =

@@ -1,5 +1,5 @@
-use mathlib.Core.Path.{◌≡◌, ap, ◌∙◌}
-use borrow.Author.Tests.{eq-eqb, ne_eqb}
+use mathlib.Core.Path.{◌≡◌, sym, ap, ◌∙◌}
+use mathlib.Core.Bool.{true, false}
 use lib.ListN.{length}
 use Rattle.word.proofs.Lists.{length-tabulate}
 use mir.Facts.{to_z-of_z}
@@ -13,17 +13,17 @@ use Rattle.playback.proofs.Answers.{left}
 use borrow.Author.Rules.{rules}
 use Rattle.playback.proofs.frame_sound.Goals as goal
 
-pub returns-then-b-ne1 : goal.returns-then-b-ne1
+pub returns-then-not-is_received : goal.returns-then-not-is_received
 unfolding recorded_in
-returns-then-b-ne1 c =
+returns-then-not-is_received c =
     let r = to_z-of_z c.ranges.rate in
     let n = to_z-of_z c.ranges.subframes in
-    c.lost_sound.ensures ∙ (λ i. sound_of c.args.s (call_of (r i) (n i) lost)) ∙ rw (ne_eqb _ _ c.if-b-ne1.true)
+    c.lost_sound.ensures ∙ (λ i. sound_of c.args.s (call_of (r i) (n i) lost)) ∙ rw (sym c.is_received.ensures ∙ c.if-not-is_received.true)
 
 pub slice_bounds-received_frame-end : goal.slice_bounds-received_frame-end
 unfolding pulses_in
 slice_bounds-received_frame-end c =
-    let n : length c.pulses_in-pulses.result ≡ 320 = rw c.pulses_in-pulses.ensures (length-tabulate 320 _) in
+    let n : length c.pulses-pulses.result ≡ 320 = rw c.pulses-pulses.ensures (length-tabulate 320 _) in
     search rules
 
 pub returns : goal.returns
@@ -31,11 +31,11 @@ unfolding call_of sound_of recorded_in silence
 returns c =
     let r = to_z-of_z c.ranges.rate in
     let n = to_z-of_z c.ranges.subframes in
-    let q = c.params_in-q.ensures in
-    let k = c.control_in-c.ensures in
-    let w = c.rows_in-rows.ensures in
-    let l = c.lines_in-lines.ensures in
-    let p = c.pulses_in-pulses.ensures in
+    let q = c.params-q.ensures in
+    let k = c.control-c.ensures in
+    let w = c.rows-rows.ensures in
+    let l = c.lines-lines.ensures in
+    let p = c.pulses-pulses.ensures in
     let a = c.state_left-state.ensures ∙ ap (state_left c.args.s) (c.received_frame-answer.ensures.0 ∙ λ i. frame_answer c.args.s (frame_call (r i) (n i) (Received (q i)) (k i) (w i) (l i) (p i) silence)) ∙ left c.args.s _ in
     let o = c.received_frame-answer.ensures.1 ∙ λ i. frame_output c.args.s (frame_call (r i) (n i) (Received (q i)) (k i) (w i) (l i) (p i) silence) in
-    rw (eq-eqb _ _ c.if-b-ne1.false) (λ i. record { state = a i; samples = o i })
+    rw (sym c.is_received.ensures ∙ c.if-not-is_received.false) (λ i. record { state = a i; samples = o i })

@@ -8,4 +8,4 @@ use Rattle.playback.proofs.play_frames.Given as goal
 abbrev pub invariant-loop-i : goal.invariant-loop-i
 invariant-loop-i l =
     (length l.output ≡ length l.initial.output) × (l.size ≡ frame_length (shape l.rate l.subframes)) × (l.size ≤ 320)
-    × Played l.rate l.subframes l.initial.state l.bytes l.records l.initial.output l.output l.state l.at l.i-index
+    × Played l.rate l.subframes l.initial.state l.frames.bytes.now l.frames.records.now l.initial.output l.output l.state l.at l.i-index

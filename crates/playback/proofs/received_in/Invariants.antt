@@ -9,4 +9,4 @@ use Rattle.playback.proofs.received_in.Given as goal
 abbrev pub invariant-loop-i : goal.invariant-loop-i
 invariant-loop-i l =
     (l.count ≤ l.i-index)
-    × (received_in (map (recorded_at l.bytes) l.records) ≡ l.count + received_in (map (recorded_at l.bytes) (drop l.i-index l.records)))
+    × (received_in (map (recorded_at l.frames.bytes.now) l.frames.records.now) ≡ l.count + received_in (map (recorded_at l.frames.bytes.now) (drop l.i-index l.frames.records.now)))

@@ -1,7 +1,6 @@
-use mathlib.Core.Path.{refl, sym, ap, ◌∙◌}
+use mathlib.Core.Path.{refl, sym, ◌∙◌}
 use borrow.Author.Rules.{rules}
 use borrow.Author.Tests.{lt-ltb, le-ltb}
-use lib.IntN.{pos}
 use lib.ListN.{length}
 use mir.Syntax.{w16, w32}
 use Rattle.word.proofs.Words.{kept, got}
@@ -25,5 +24,5 @@ pub returns-in-Err : goal.returns-in-Err
 unfolding cosine_call called given
 returns-in-Err c =
     let e = sym c.in-Err.ensures in
-    let n = got w32 c.from-in-Err.type_inv (c.from-in-Err.ensures ∙ ap pos c.number.ensures) in
+    let n = got w32 c.code.type_inv c.code.ensures in
     rw (le-ltb (length c.args.value.now) 1 c.if-value-lt1.false, e, n) refl

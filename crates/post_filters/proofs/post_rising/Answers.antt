@@ -1,4 +1,4 @@
-use mathlib.Core.Path.{◌≡◌, refl, sym, ap, ◌∙◌}
+use mathlib.Core.Path.{◌≡◌, refl, sym, ◌∙◌}
 use borrow.Author.Tests.{lt-ltb, le-ltb}
 use lib.IntN.{pos}
 use lib.ListN.{length}
@@ -31,5 +31,5 @@ pub returns-in-Err : goal.returns-in-Err
 unfolding rising_call called given
 returns-in-Err c =
     let e = sym c.in-Err.ensures in
-    let n = got w32 c.from-in-Err.type_inv (c.from-in-Err.ensures ∙ ap pos c.number.ensures) in
+    let n = got w32 c.code.type_inv c.code.ensures in
     rw (le-ltb (length c.args.answer.now) 1 c.if-answer-lt1.false, e, n) refl

@@ -1,7 +1,6 @@
-use mathlib.Core.Path.{◌≡◌, refl, sym, ap, ◌∙◌}
+use mathlib.Core.Path.{◌≡◌, refl, sym}
 use borrow.Author.Rules.{rules}
 use borrow.Author.Tests.{lt-ltb, le-ltb}
-use lib.IntN.{pos}
 use lib.ListN.{length}
 use lib.Seq.{length-take-le}
 use mir.Syntax.{w32}
@@ -31,5 +30,5 @@ pub returns-in-Err : goal.returns-in-Err
 unfolding sentence_call called given
 returns-in-Err c =
     let e = sym (rw (to_z-of_z c.ranges.edition) at c.in-Err.ensures) in
-    let n = got w32 c.from.type_inv (c.from.ensures ∙ ap pos c.number.ensures) in
+    let n = got w32 c.code.type_inv c.code.ensures in
     rw (le-ltb (length c.args.text.now) 64 c.if-text-lt64.false, e, n) refl

@@ -27,5 +27,5 @@ pub returns-in-Err : goal.returns-in-Err
 unfolding stability_call called given
 returns-in-Err c =
     let e = sym (rw (to_z-of_z c.ranges.edition) at c.in-Err.ensures) in
-    let n = got w32 c.from-in-Err.type_inv (c.from-in-Err.ensures ∙ ap pos c.number.ensures) in
+    let n = got w32 c.code.type_inv c.code.ensures in
     rw (le-ltb (length c.args.answer.now) 2 c.if-answer-lt2.false, e, n) refl

@@ -7,7 +7,7 @@ use mir.Facts.{to_z-of_z}
 use Rattle.word.proofs.Words.{got}
 use Rattle.load.specs.Load.{before, load_refusal}
 use Rattle.post_load.specs.Calls.{called, short_load, framed, coefficiented, pulsed}
-use Rattle.post_load.proofs.Ends.{long, too_short, refused, accepted}
+use Rattle.post_load.proofs.Ends.{too_short, refused, accepted}
 use Rattle.post_load.proofs.post_load_frame.Goals.{After-load_refusal-judged, Else-short_load, then-is_ok, else-is_ok}
 use Rattle.post_load.proofs.post_load_frame.Goals as goal
 
@@ -26,9 +26,7 @@ returns-then-short_load c =
     too_short a.rate a.subframes a.seed a.number a.frame.now a.coefs.now a.pulses.now (sym c.short_load.ensures ∙ c.if-short_load.true)
 
 pub put_load-requires : goal.put_load-requires
-put_load-requires c =
-    let a = c.args in
-    long (length a.frame.now) (length a.coefs.now) (length a.pulses.now) (enough (goal.at.put_load-requires c).Else-short_load)
+put_load-requires c = enough (goal.at.put_load-requires c).Else-short_load
 
 pub returns : goal.returns
 returns c =

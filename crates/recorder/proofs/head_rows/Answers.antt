@@ -11,13 +11,13 @@ pub returns-in_err-refuse_if-2 : goal.returns-in_err-refuse_if-2
 returns-in_err-refuse_if-2 c =
     row_passes _ _ c.refuse_if.ensures (rw c.is_head.ensures) c.in_ok-refuse_if.was
     (row_stops _ _ c.refuse_if-2.ensures
-    (rw (c.is_rate.ensures, kept w32 c.signed_byte.result c.signed_byte.type_inv, c.signed_byte.ensures, c.equals.ensures, to_z-of_z c.ranges.rate, c.wide8.ensures.0))
+    (rw (c.is_rate.ensures, kept w32 c.from.result c.from.type_inv, c.from.ensures, c.equals.ensures, to_z-of_z c.ranges.rate, c.from-2.ensures))
     c.in_err-refuse_if-2.was c.from_residual-in_err-refuse_if-2.ensures.1)
 
 pub returns : goal.returns
 returns c =
     row_passes _ _ c.refuse_if.ensures (rw c.is_head.ensures) c.in_ok-refuse_if.was
     (row_passes _ _ c.refuse_if-2.ensures
-    (rw (c.is_rate.ensures, kept w32 c.signed_byte.result c.signed_byte.type_inv, c.signed_byte.ensures, c.equals.ensures, to_z-of_z c.ranges.rate, c.wide8.ensures.0))
+    (rw (c.is_rate.ensures, kept w32 c.from.result c.from.type_inv, c.from.ensures, c.equals.ensures, to_z-of_z c.ranges.rate, c.from-2.ensures))
     c.in_ok-refuse_if-2.was
-    (rw (c.refuse_if-3.ensures, c.is_count.ensures, kept w32 c.signed_byte-2.result c.signed_byte-2.type_inv, c.signed_byte-2.ensures, c.equals-2.ensures, to_z-of_z c.ranges.subframes, c.wide8-2.ensures.0)))
+    (rw (c.refuse_if-3.ensures, c.is_count.ensures, kept w32 c.from-3.result c.from-3.type_inv, c.from-3.ensures, c.equals-2.ensures, to_z-of_z c.ranges.subframes, c.from-4.ensures)))

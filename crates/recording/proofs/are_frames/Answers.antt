@@ -13,9 +13,9 @@ loop-i-init c = refl
 pub loop-i-preserved : goal.loop-i-preserved
 unfolding are_frames
 loop-i-preserved c =
-    rw (back_more c.loop-i.yielded c.in-Some.i, c.is_frame-ok.ensures, c.wide8.ensures.0, c.loop-i.invariant)
+    rw (back_more c.loop-i.yielded c.in-Some.i, c.is_frame-ok.ensures, c.loop-i.invariant)
 
 pub returns : goal.returns
 returns c =
-    let e = YieldsList-end (YieldsList-from_rev_slice c.args.records.now cc) c.loop-i.yielded _ c.loop-i.yielded_by _ _ c.in-None.is c.next.ensures.steps in
-    c.loop-i.invariant ∙ rw (e.0, reverse-reverse c.args.records.now)
+    let e = YieldsList-end (YieldsList-from_rev_slice c.args.frames.now.records.now cc) c.loop-i.yielded _ c.loop-i.yielded_by _ _ c.in-None.is c.next.ensures.steps in
+    c.loop-i.invariant ∙ rw (e.0, reverse-reverse c.args.frames.now.records.now)

@@ -4,4 +4,4 @@ use Rattle.recording.specs.Frames.{are_frames}
 use Rattle.recording.proofs.are_frames.Given as goal
 
 abbrev pub invariant-loop-i : goal.invariant-loop-i
-invariant-loop-i l = l.ok ≡ are_frames l.bytes (reverse (map (λ r. r.now) l.yielded))
+invariant-loop-i l = l.ok ≡ are_frames l.frames.bytes.now (reverse (map (λ r. r.now) l.yielded))

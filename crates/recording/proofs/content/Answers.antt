@@ -1,6 +1,10 @@
+use native.Mathlib.Omega.{arith}
 use mir.Facts.{to_z-of_z}
 use Rattle.recording.proofs.Rows.{row_stops, row_passes, rows_pass}
 use Rattle.recording.proofs.content.Goals as goal
+
+pub is_head-requires : goal.is_head-requires
+is_head-requires c = let h = c.args.frames.now.inside 0 in omega (arith, h)
 
 pub returns-in_err-refuse_if : goal.returns-in_err-refuse_if
 returns-in_err-refuse_if c = row_stops _ _ _ c.refuse_if.ensures (rw (c.is_head.ensures, c.are_frames.ensures)) c.in_err-refuse_if.was c.from_residual.ensures.1

@@ -5,4 +5,4 @@ use Rattle.recording.specs.Frames.{recorded_at, described_all}
 use Rattle.recording.proofs.described_all.Given as goal
 
 abbrev pub invariant-loop-i : goal.invariant-loop-i
-invariant-loop-i l = l.worst ≡ described_all (shape l.khz l.nb_subfr) (map (recorded_at l.bytes) (reverse (map (λ r. r.now) l.yielded)))
+invariant-loop-i l = l.worst ≡ described_all (shape l.khz l.nb_subfr) (map (recorded_at l.frames.bytes.now) (reverse (map (λ r. r.now) l.yielded)))

@@ -64,11 +64,11 @@ module _ (c : In_ok-order) where
 
 -- the rows behind the chain
 module _ (c : After-content) where
-  rate_is : to_z w32 (of_z w32 c.signed_byte-rate.result) ≡ rate_in c.args.bytes.now
-  rate_is = kept w32 c.signed_byte-rate.result c.signed_byte-rate.type_inv ∙ c.signed_byte-rate.ensures
+  rate_is : to_z w32 (of_z w32 c.from-rate.result) ≡ rate_in c.args.bytes.now
+  rate_is = kept w32 c.from-rate.result c.from-rate.type_inv ∙ c.from-rate.ensures
 
-  count_is : to_z w32 (of_z w32 c.signed_byte-subframes.result) ≡ count_in c.args.bytes.now
-  count_is = kept w32 c.signed_byte-subframes.result c.signed_byte-subframes.type_inv ∙ c.signed_byte-subframes.ensures
+  count_is : to_z w32 (of_z w32 c.from-subframes.result) ≡ count_in c.args.bytes.now
+  count_is = kept w32 c.from-subframes.result c.from-subframes.type_inv ∙ c.from-subframes.ensures
 
   content-is : read_refusal c.args.bytes.now ≡ c.content.result
   unfolding frames_in
@@ -99,14 +99,14 @@ bounds-bytes-7 c = let h = enough-bytes (goal.at.bounds-bytes-7 c).In_ok-order i
 pub slice_bounds-records-end : goal.slice_bounds-records-end
 slice_bounds-records-end c = few (goal.at.slice_bounds-records-end c).In_ok-order
 
-pub slice_bounds-content-end : goal.slice_bounds-content-end
-slice_bounds-content-end c =
-    sym (length-take-le c.in_ok-order.order.frames c.in_ok-order.order.records (few (goal.at.slice_bounds-content-end c).In_ok-order))
+pub slice_bounds-along-end : goal.slice_bounds-along-end
+slice_bounds-along-end c =
+    sym (length-take-le c.in_ok-order.order.frames c.in_ok-order.order.records (few (goal.at.slice_bounds-along-end c).In_ok-order))
 
-pub content-requires : goal.content-requires
-content-requires c =
-    let k = (goal.at.content-requires c).In_ok-order in
-    (enough-bytes k, rw (first-are k) (inside_chain c.args.bytes.now (is-whole k)))
+pub invariant_of-along : goal.invariant_of-along
+invariant_of-along c =
+    let k = (goal.at.invariant_of-along c).In_ok-order in
+    record { inside = rw (first-are k) (inside_chain c.args.bytes.now (is-whole k)) }
 
 pub returns-in_err-content : goal.returns-in_err-content
 returns-in_err-content c =

@@ -2,6 +2,7 @@ use Rattle.std.proofs.Common.{◌≡◌, length, take, pos, replicate, refl, ◌
 use Rattle.std.proofs.lemmas.List.{length-replicate}
 use Rattle.word.proofs.Words.{kept}
 use Rattle.sigproc.specs.Analysis.{analysis}
+use Rattle.sigproc.proofs.Coefficients.{residual_first}
 use Rattle.sigproc.proofs.Fill.{turn, filled, all-zeros}
 use Rattle.sigproc.proofs.analysis_filter.Invariants.{output}
 use Rattle.sigproc.proofs.analysis_filter.Goals as goal
@@ -19,7 +20,7 @@ loop-i-preserved g c =
     let a = c.args in (
       search rules,
       turn a.out.now (output a.input.now a.b.now g.row.ORDER) c.loop-i.i c.loop-i.out _ (omega arith) c.loop-i.invariant.1
-          (rw (kept w16 _ c.residual.type_inv, c.residual.ensures, le-ltb _ _ c.loop-i.auto.i)),
+          (rw (kept w16 _ c.residual.type_inv, c.residual.ensures, residual_first a.input.now a.b.now g.row.ORDER c.loop-i.i (omega arith), le-ltb _ _ c.loop-i.auto.i)),
     )
 
 pub returns : goal.returns

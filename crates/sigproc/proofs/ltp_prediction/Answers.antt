@@ -1,4 +1,4 @@
-use Rattle.std.proofs.Common.{refl, le_antisymm, add-one, w16, w32, rules}
+use Rattle.std.proofs.Common.{refl, add-one, w16, w32, rules}
 use Rattle.word.proofs.Words.{kept}
 use Rattle.sigproc.specs.Synthesis.{ltp_prediction}
 use Rattle.sigproc.proofs.ltp_prediction.Goals as goal
@@ -13,6 +13,3 @@ loop-j-preserved c = (
   search rules,
   rw (add-one, kept w32 _ c.silk_smlawb-sum.type_inv, c.silk_smlawb-sum.ensures, c.loop-j.invariant.1, kept w32 c.wide16.result c.wide16.type_inv, c.wide16.ensures, kept w16 _ c.wide16-arg-1.given, kept w32 _ c.silk_smlawb-arg-1.given),
 )
-
-pub returns : goal.returns
-returns c = cc (le_antisymm c.loop-j.invariant.0 c.loop-j-test.false)

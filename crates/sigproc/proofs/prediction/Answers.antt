@@ -1,46 +1,36 @@
-use Rattle.std.proofs.Common.{◌/◌, le_antisymm, add-one, arith, w16, w32, rules}
+use Rattle.std.proofs.Common.{◌≡◌, ◌+◌, ◌-◌, ◌/◌, length, take, drop, pos, refl, add-one, arith, w16, w32, length-drop, get_or-drop}
 use native.Mathlib.Nat.{sub-zero}
+use lib.Seq.{take_all}
 use mir.Facts.{to_z_pos}
 use Rattle.word.proofs.Words.{kept}
 use Rattle.sigproc.specs.Synthesis.{prediction}
 use Rattle.sigproc.proofs.Predict.{smlawb_swap}
 use Rattle.sigproc.proofs.prediction.Goals as goal
 
-pub overflow_cast-sum : goal.overflow_cast-sum
-overflow_cast-sum c = record { sfits = omega arith }
-
 pub loop-j-init : goal.loop-j-init
 unfolding prediction
-loop-j-init c = (search rules, search rules, rw (to_z_pos w32 {n = c.args.d / 2} (omega arith), sub-zero))
+loop-j-init c = rw (to_z_pos w32 {n = length c.args.a.now / 2} (omega arith), sub-zero) refl
 
 pub loop-j-preserved : goal.loop-j-preserved
 unfolding prediction
-loop-j-preserved c = (
-  search rules,
-  search rules,
-  rw (
-    add-one,
-    kept w32 _ c.silk_smlawb-sum.type_inv,
-    c.silk_smlawb-sum.ensures,
-    kept w32 c.wide16.result c.wide16.type_inv,
-    c.wide16.ensures,
-    kept w16 _ c.wide16-arg-1.given,
-    kept w32 _ c.silk_smlawb-arg-1.given,
-    ← c.loop-j.invariant.2,
-  )
-      (smlawb_swap _ _ _ _ _),
-)
-
-pub returns : goal.returns
-returns c =
-    let l = c.loop-j in
-    let e = le_antisymm l.invariant.1 c.loop-j-test.false in
+loop-j-preserved c =
+    let a = c.args in
+    let j = c.loop-j.j in
+    let p : a.at - 2 - j ≡ a.at - 1 - (j + 1) = omega arith in
+    let e : 1 + j ≡ j + 1 = omega arith in
+    let t : take (length a.a.now - 1) (drop 1 a.a.now) ≡ drop 1 a.a.now = take_all (length a.a.now - 1) (drop 1 a.a.now) (simp length-drop (omega arith)) in
     rw (
-      kept w32 _ c.silk_smlawb.type_inv,
-      c.silk_smlawb.ensures,
-      kept w32 c.wide16-2.result c.wide16-2.type_inv,
-      c.wide16-2.ensures,
-      kept w16 _ c.wide16-arg-2-1.given,
-      kept w32 _ c.silk_smlawb-arg-2-1.given,
+      add-one (j + 1),
+      kept w32 _ c.silk_smlawb-sum.type_inv,
+      c.silk_smlawb-sum.ensures,
+      kept w32 c.wide16.result c.wide16.type_inv,
+      c.wide16.ensures,
+      kept w16 _ c.wide16-arg-1.given,
+      kept w32 _ c.silk_smlawb-arg-1.given,
+      t,
+      get_or-drop 1 a.a.now j (pos 0),
+      p,
+      e,
+      ← c.loop-j.invariant,
     )
-    (rw e at l.invariant.2)
+    (smlawb_swap _ _ _ _ _)

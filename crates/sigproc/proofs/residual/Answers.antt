@@ -1,4 +1,4 @@
-use Rattle.std.proofs.Common.{◌^◌, get_or, pos, ◌*ℤ◌, neg_ℤ, ap, w16, w32}
+use Rattle.std.proofs.Common.{◌^◌, length, get_or, pos, ◌*ℤ◌, neg_ℤ, ap, w16, w32}
 use Rattle.word.specs.Int.{sat16}
 use Rattle.word.proofs.Words.{kept, wrap_add_l}
 use Rattle.macros.specs.Fixed.{rshift_round}
@@ -25,4 +25,4 @@ returns c =
       c.products.ensures,
     )
     (ap (λ z. sat16 (rshift_round z (pos 12)))
-    (wrap_add_l w32 (get_or a.x.now a.i (pos 0) *ℤ pos (2 ^ 12)) (neg_ℤ (products a.x.now a.b.now a.i a.d))))
+    (wrap_add_l w32 (get_or a.x.now a.i (pos 0) *ℤ pos (2 ^ 12)) (neg_ℤ (products a.x.now a.b.now a.i (length a.b.now)))))

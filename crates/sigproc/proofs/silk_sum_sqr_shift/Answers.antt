@@ -1,5 +1,5 @@
 use Rattle.std.proofs.Common.{◌≡◌, ◌+◌, ◌-◌, ◌*◌, ◌^◌, ◌<◌, ◌≤◌, length, ap, mod-eq_of_lt, arith, w32}
-use lib.Count.{count_leading_zeros, leading_top}
+use lib.Count.{count_leading_zeros}
 use mir.Facts.{to_z_pos}
 use Rattle.sigproc.specs.Energy.{energy_at, first_shift, energy_shift, sum_sqr_shift}
 use Rattle.sigproc.proofs.Energies.{zeros-is, estimate, bounds}
@@ -35,9 +35,6 @@ energy_is : (c : After-energy_at-2) → let x = c.args.x.now in c.energy_at-2.re
 energy_is c =
     let l = limits c.before in
     rw (c.energy_at-2.ensures.0, shift_is c.before) (mod-eq_of_lt (omega arith))
-
-pub overflow_sub-first : goal.overflow_sub-first
-overflow_sub-first c = omega (arith, (leading_top 32 (length c.args.x.now) (omega arith) (omega arith)).1)
 
 pub overflow_add-zeros : goal.overflow_add-zeros
 overflow_add-zeros c =

@@ -1,7 +1,7 @@
-use Rattle.std.proofs.Common.{◌≡◌, suc, ◌+◌, ◌-◌, length, get_or, pos, sym, refl, le_antisymm, add-one, arith, take-append-drop, w32, rules}
+use Rattle.std.proofs.Common.{◌≡◌, suc, ◌+◌, ◌-◌, get_or, pos, sym, refl, add-one, arith, take-append-drop, w32, rules}
 use Rattle.word.proofs.Words.{kept}
 use Rattle.sigproc.specs.Synthesis.{synthesis}
-use Rattle.sigproc.proofs.Fill.{filled}
+use Rattle.sigproc.proofs.Coefficients.{prediction_first}
 use Rattle.sigproc.proofs.InPlace.{synthesis-turn}
 use Rattle.sigproc.proofs.synthesis_of_order.Goals as goal
 
@@ -24,12 +24,7 @@ loop-i-preserved g c =
         kept w32 (get_or c.loop-i.buf (16 + c.loop-i.i) (pos 0)) c.synthesised-arg-1.given,
         kept w32 _ c.prediction.type_inv,
         c.prediction.ensures,
+        prediction_first c.loop-i.buf a.a.now g.row.ORDER (16 + c.loop-i.i) (omega arith),
       )
           (synthesis-turn a.buf.now a.a.now g.row.ORDER c.loop-i.i c.loop-i.buf (omega arith) c.loop-i.invariant.3),
     )
-
-pub returns : goal.returns
-returns g c =
-    let l = c.loop-i in
-    let b = c.args.buf.now in
-    rw (l.invariant.3, le_antisymm l.invariant.0 c.loop-i-test.false) (filled _ b (16 + (length b - 16)) (omega arith))

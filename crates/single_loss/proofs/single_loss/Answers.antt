@@ -1,7 +1,7 @@
 use Prim.Native.Nat.{ℕ}
 use mathlib.Core.Path.{◌≡◌, sym, ap, ◌∙◌}
 use mathlib.Core.Bool.{Bool, not}
-use mathlib.Core.List.{List, [], ◌∷◌}
+use mathlib.Core.List.{List, [], ◌∷◌, map}
 use lib.IntN.{ℤ, pos}
 use mir.Facts.{to_z-of_z}
 use Rattle.std.specs.Prelude.{Ok}
@@ -10,11 +10,12 @@ use Rattle.refusal.specs.Refusals.{code_of}
 use Rattle.refusal.specs.declared.Refusal.TheVariants.{Limit}
 use Rattle.refusal.proofs.Clear.{at_err, clear}
 use Rattle.decoder.specs.Ranges.{within}
-use Rattle.recording.specs.Frames.{rate_in, count_in, frames_in}
+use Rattle.recording.specs.Frames.{rate_in, count_in, recorded_at, frames_in}
 use Rattle.recording.specs.Reading.{read_of}
 use Rattle.recording.specs.declared.Recording.{Recording}
 use Rattle.playback.specs.Playback.{start_of}
-use Rattle.playback.proofs.Read.{not_read, read-well, rate-back, count-back, few, lies, frames-back, frames_count, many, started, starts}
+use Rattle.recording.proofs.Accepted.{not_read, read-well, frames_count}
+use Rattle.playback.proofs.Read.{rate-back, count-back, started, starts}
 use Rattle.culprit.specs.Search.{passes, is_culprit, first_from}
 use Rattle.single_loss.proofs.Answers.{refused, unread, out_of_range, passed_already, searched}
 use Rattle.single_loss.proofs.single_loss.Goals.{In_ok-r, After-passes-loud}
@@ -43,13 +44,16 @@ module _ (c : After-passes-loud) where
   start_is : c.in_ok-s.s ≡ start_of (b p)
   start_is = started (b p) r (is p) c.in_ok-s.s (sym c.set_up_for.ensures ∙ c.in_ok-s.was)
 
+  frames_are : map (recorded_at c.frames_in-frames.result.bytes.now) c.frames_in-frames.result.records.now ≡ frames_in (b p)
+  frames_are = ap (λ d. map (recorded_at d) c.frames_in-frames.result.records.now) c.frames_in-frames.ensures.0 ∙ c.frames_in-frames.ensures.1
+
   in-range : first_of ((not (within (pos 1) (pos 32767) c.args.limit) gives Limit) ∷ []) ≡ Ok tt
   in-range = sym (c.refuse_if.ensures ∙ row _ c.args.limit c.within.result c.within.ensures (to_z-of_z c.ranges.limit)) ∙ c.in_ok-refuse_if.was
 
   as_recorded : c.passes-loud.result ≡ passes c.args.limit (rate_in (b p)) (count_in (b p)) (start_of (b p)) (frames_in (b p))
   as_recorded =
       let l = to_z-of_z c.ranges.limit in
-      c.passes-loud.ensures ∙ λ i. passes (l i) (rate-back (b p) r (is p) i) (count-back (b p) r (is p) i) (start_is i) (frames-back (b p) r (is p) i)
+      c.passes-loud.ensures ∙ λ i. passes (l i) (rate-back (b p) r (is p) i) (count-back (b p) r (is p) i) (start_is i) (frames_are i)
 
 pub returns-in_err-r : goal.returns-in_err-r
 returns-in_err-r c =
@@ -67,13 +71,8 @@ pub returns-in_err-s : goal.returns-in_err-s
 returns-in_err-s c =
     absurd (starts c.args.bytes.now c.in_ok-r.r (is (goal.at.returns-in_err-s c).In_ok-r) (sym c.set_up_for.ensures ∙ c.in_err-s.was))
 
-pub shared_ref_as_front-records : goal.shared_ref_as_front-records
-shared_ref_as_front-records c =
-    few c.args.bytes.now c.in_ok-r.r (is (goal.at.shared_ref_as_front-records c).In_ok-r)
-
-pub passes-loud-requires : goal.passes-loud-requires
-passes-loud-requires c =
-    lies c.args.bytes.now c.in_ok-r.r (is (goal.at.passes-loud-requires c).In_ok-r)
+pub frames_in-frames-requires : goal.frames_in-frames-requires
+frames_in-frames-requires c = is (goal.at.frames_in-frames-requires c).In_ok-r
 
 pub returns-in_err-refuse_if-2 : goal.returns-in_err-refuse_if-2
 returns-in_err-refuse_if-2 c =
@@ -86,7 +85,7 @@ returns-in_err-refuse_if-2 c =
 pub first_culprit-found-requires : goal.first_culprit-found-requires
 first_culprit-found-requires c =
     let q : first_of ((c.passes-loud.result gives Limit) ∷ []) ≡ Ok tt = sym c.refuse_if-2.ensures ∙ c.in_ok-refuse_if-2.was in
-    (lies c.args.bytes.now c.in_ok-r.r (is (goal.at.first_culprit-found-requires c).In_ok-r), sym c.passes-loud.ensures ∙ (clear ((c.passes-loud.result gives Limit) ∷ []) (ap code_of q)).0)
+    sym c.passes-loud.ensures ∙ (clear ((c.passes-loud.result gives Limit) ∷ []) (ap code_of q)).0
 
 pub returns : goal.returns
 returns c =
@@ -95,6 +94,6 @@ returns c =
     let k = (goal.at.returns c).After-passes-loud in
     let e = is (goal.at.returns c).In_ok-r in
     let r = c.in_ok-r.r in
-    let n = many b r e ∙ frames_count b r e in
-    ap Ok (c.first_culprit-found.ensures ∙ λ i. first_from (is_culprit (l i) (rate-back b r e i) (count-back b r e i) (start_is k i) (frames-back b r e i)) 0 (n i))
+    let n = c.frames_in-frames.ensures.2 ∙ frames_count b r e in
+    ap Ok (c.first_culprit-found.ensures ∙ λ i. first_from (is_culprit (l i) (rate-back b r e i) (count-back b r e i) (start_is k i) (frames_are k i)) 0 (n i))
     ∙ searched b c.args.limit (read-well b r e) (in-range k) (ap (λ (t : Bool). first_of ((t gives Limit) ∷ [])) (sym (as_recorded k)) ∙ sym c.refuse_if-2.ensures ∙ c.in_ok-refuse_if-2.was)

@@ -14,7 +14,7 @@ use Rattle.stability.proofs.in_qa.Goals as goal
 
 pub loop-k-preserved : goal.loop-k-preserved
 loop-k-preserved c =
-    let a = c.args.a.now in
+    let a = c.args.c.a_q12.now in
     let k = c.loop-k.k in
     let g = c.from-arg-1.given in (
       search rules,
@@ -25,4 +25,4 @@ loop-k-preserved c =
 pub returns : goal.returns
 returns c =
     let e = le_antisymm c.loop-k.auto.k-end c.loop-k-test.false in
-    rw (c.loop-k.invariant.1, e, take-length c.args.a.now) refl
+    rw (c.loop-k.invariant.1, e, take-length c.args.c.a_q12.now) refl

@@ -3,8 +3,7 @@ use mathlib.Core.Path.{◌≡◌, refl}
 use mathlib.Core.List.{map, ◌++◌}
 use native.Mathlib.Omega.{arith}
 use lib.IntN.{pos, ◌*ℤ◌}
-use lib.ListN.{take, drop, replicate, get_or-append, length-map, length}
-use lib.Seq.{length-take-le}
+use lib.ListN.{drop, replicate, get_or-append, length-map, length}
 use lib.Signed.{le_z}
 use mathlib.Core.Bool.{Bool}
 use mir.Syntax.{w32}
@@ -18,7 +17,7 @@ use Rattle.stability.proofs.stable_or_why.Goals as goal
 
 -- the test of the sum
 sum_test : {t : Bool} (c : After-dc_resp)
-    → let a = take c.args.order c.args.a.now in
+    → let a = c.args.c.a_q12.now in
     le_z (pos 4096) (to_z w32 (of_z w32 c.dc_resp.result)) ≡ t → le_z (pos 4096) (total a (length a)) ≡ t
 sum_test c e =
     rw (← c.dc_resp.ensures) (tested w32 (λ z. le_z (pos 4096) z) c.dc_resp.result c.dc_resp.type_inv e)
@@ -26,18 +25,16 @@ sum_test c e =
 pub returns : goal.returns
 unfolding stability stability_by
 returns c =
-    let d = c.args.order in
-    let a = take d c.args.a.now in
-    let l = length-take-le d c.args.a.now c.requires.2 in
+    let a = c.args.c.a_q12.now in
+    let d = length a in
     let q = map (λ x. x *ℤ pos (2 ^ 12)) a in
     rw (
       c.lpc_inverse_pred_gain_qa.ensures,
       c.in_qa.ensures,
       to_z-of_z c.ranges.edition,
       sum_test (goal.at.returns c).After-dc_resp c.if-dc_resp-ge4096.false,
-      l,
     )
-    (steps_cong a_limit c.args.edition (q ++ drop d (replicate 16 (pos 0))) q (pos (2 ^ 30)) (d - 1) (λ i h. get_or-append q (drop d (replicate 16 (pos 0))) (pos 0) i (rw (length-map, l) (omega arith))))
+    (steps_cong a_limit c.args.edition (q ++ drop d (replicate 16 (pos 0))) q (pos (2 ^ 30)) (d - 1) (λ i h. get_or-append q (drop d (replicate 16 (pos 0))) (pos 0) i (rw length-map (omega arith))))
 
 pub returns-then-dc_resp-ge4096 : goal.returns-then-dc_resp-ge4096
 unfolding stability stability_by

@@ -1,40 +1,17 @@
-use mathlib.Core.Path.{refl, sym, ◌∙◌}
+use mathlib.Core.Path.{◌∙◌}
 use mathlib.Core.List.{[]}
 use Rattle.cng.specs.Answer.{cng_answer, cng_output}
-use Rattle.layout.proofs.Slices.{frame-long}
 use Rattle.slices.specs.Slices.{slices}
-use Rattle.slices.proofs.Ends.{lent_back, refused, taken}
 use Rattle.stages.specs.Stages.{noise_on}
+use Rattle.stages.proofs.Ends.{stored_beside}
 use Rattle.stages.proofs.noise.Goals as goal
 
-pub state_in-s-requires : goal.state_in-s-requires
-state_in-s-requires c = let l = frame-long _ _ _ c.requires in (l.0, l.1)
-
-pub tapless-c-requires : goal.tapless-c-requires
-tapless-c-requires c = (frame-long _ _ _ c.requires).2
-
-pub put_state-requires : goal.put_state-requires
-put_state-requires c = let l = frame-long _ _ _ c.requires in (l.0, l.1)
-
-pub returns-in-Err : goal.returns-in-Err
+pub returns-clause-answer : goal.returns-clause-answer
 unfolding noise_on cng_answer cng_output
-returns-in-Err c =
+returns-clause-answer c =
     let a = c.args in
-    let m = slices a.words.now a.halves.now a.frame.now [] [] a.buffer.now in
-    let x = c.state_in-s.ensures in
+    let m = slices a.state.now.words.now a.state.now.halves.now a.frame.numbers.now [] [] a.buffer.now in
+    let x = c.state-s.ensures in
     let y = c.tapless-c.ensures in
     let e = c.silk_cng-answer.ensures in
-    let r = sym c.in-Err.is ∙ e.0 ∙ λ i. cng_answer (x i) (y i) a.buffer.now a.n in
-    refused _ m r refl (e.1 ∙ (λ i. cng_output (x i) (y i) a.buffer.now a.n) ∙ lent_back _ _ _ _ r)
-
-pub returns-in-Ok : goal.returns-in-Ok
-unfolding noise_on
-returns-in-Ok c =
-    let a = c.args in
-    let m = slices a.words.now a.halves.now a.frame.now [] [] a.buffer.now in
-    let x = c.state_in-s.ensures in
-    let y = c.tapless-c.ensures in
-    let e = c.silk_cng-answer.ensures in
-    let p = c.put_state.ensures in
-    let o = e.1 ∙ λ i. cng_output (x i) (y i) a.buffer.now a.n in
-    taken _ m (sym c.in-Ok.is ∙ e.0 ∙ λ i. cng_answer (x i) (y i) a.buffer.now a.n) (λ i. slices (p.0 i) (p.1 i) a.frame.now [] [] (o i))
+    stored_beside m _ c.stored.ensures.answer _ _ _ (e.0 ∙ λ i. cng_answer (x i) (y i) a.buffer.now a.n) (e.1 ∙ λ i. cng_output (x i) (y i) a.buffer.now a.n)

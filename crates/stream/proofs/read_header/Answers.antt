@@ -26,12 +26,12 @@ begun c =
 
 rated : (c : Else-not-is_rate) → is_rate (pos (get_or c.args.header.now 8 0)) ≡ true
 rated c =
-    let s = c.signed_byte in
+    let s = c.from in
     judged is_rate s.type_inv s.ensures c.is_rate.ensures c.if-not-is_rate.false
 
 counted : (c : Else-not-is_count) → is_count (pos (get_or c.args.header.now 9 0)) ≡ true
 counted c =
-    let s = c.signed_byte-2 in
+    let s = c.from-2 in
     judged is_count s.type_inv s.ensures c.is_count.ensures c.if-not-is_count.false
 
 pub returns-then-got-lt16 : goal.returns-then-got-lt16
@@ -47,14 +47,14 @@ pub returns-then-not-is_rate : goal.returns-then-not-is_rate
 unfolding opened_of
 returns-then-not-is_rate c =
     let p = begun (goal.at.returns-then-not-is_rate c).Else-not-is_stream in
-    let s = c.signed_byte in
+    let s = c.from in
     rw (p.0, p.1, judged is_rate s.type_inv s.ensures c.is_rate.ensures c.if-not-is_rate.true)
 
 pub returns-then-not-is_count : goal.returns-then-not-is_count
 unfolding opened_of
 returns-then-not-is_count c =
     let p = begun (goal.at.returns-then-not-is_count c).Else-not-is_stream in
-    let s = c.signed_byte-2 in
+    let s = c.from-2 in
     rw (p.0, p.1, rated (goal.at.returns-then-not-is_count c).Else-not-is_rate, judged is_count s.type_inv s.ensures c.is_count.ensures c.if-not-is_count.true)
 
 pub returns-then-samples-ge4294967296 : goal.returns-then-samples-ge4294967296

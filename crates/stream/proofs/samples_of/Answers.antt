@@ -22,7 +22,7 @@ returns c =
     let n : c.frame_length-n.result ≤ 320 = rw c.frame_length-n.ensures (frame_le _ _) in
     let u : c.at.result ≤ 4294967295 = omega arith in
     let p = mul-le-mul u n in
-    let y = kept w32 c.signed_byte-2.result c.signed_byte-2.type_inv ∙ c.signed_byte-2.ensures in
-    let x = kept w32 c.signed_byte.result c.signed_byte.type_inv ∙ c.signed_byte.ensures in
+    let y = kept w32 c.from-2.result c.from-2.type_inv ∙ c.from-2.ensures in
+    let x = kept w32 c.from.result c.from.type_inv ∙ c.from.ensures in
     let e = c.frame_length-n.ensures ∙ λ i. frame_length (shape (x i) (y i)) in
     (λ i. c.at.ensures i * e i, omega (arith, p))

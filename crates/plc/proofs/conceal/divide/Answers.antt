@@ -1,20 +1,21 @@
-use mathlib.Core.Path.{refl}
+use Prim.Native.Nat.{ℕ}
+use mathlib.Core.Path.{refl, ◌∙◌}
 use native.Mathlib.Nat.{le_antisymm}
 use native.Mathlib.Omega.{arith}
 use borrow.Author.Rules.{rules}
-use borrow.Author.Tests.{le-ltb}
 use lib.IntN.{pos}
-use lib.ListN.{get_or}
+use lib.ListN.{length, get_or}
 use mir.Syntax.{w16, w32}
 use mir.Facts.{to_z-of_z}
+use Rattle.word.specs.Tabulate.{tabulate}
 use Rattle.word.proofs.Words.{kept, got}
-use Rattle.sigproc.proofs.Fill.{turn}
-use Rattle.plc.proofs.Fill.{zeros-before}
+use Rattle.macros.specs.Fixed.{smulwb}
+use Rattle.sigproc.proofs.Fill.{turn, filled, map-table}
 use Rattle.plc.proofs.conceal.divide.Goals as goal
 
 pub loop-i-init : goal.loop-i-init
-loop-i-init c =
-    (search rules, search rules, refl, zeros-before c.args.buf.now c.args.from _ (omega arith) c.requires.3)
+unfolding tabulate
+loop-i-init c = (search rules, c.requires, refl, refl)
 
 pub loop-i-preserved : goal.loop-i-preserved
 loop-i-preserved c =
@@ -22,11 +23,18 @@ loop-i-preserved c =
       search rules,
       search rules,
       search rules,
-      turn a.buf.now _ c.loop-i.i c.loop-i.buf _ (omega arith) c.loop-i.invariant.3
-          (rw (le-ltb _ _ c.loop-i.invariant.0, got w32 c.silk_smulwb.type_inv c.silk_smulwb.ensures, got w32 c.wide16.type_inv c.wide16.ensures, kept w16 (get_or a.residual.now c.loop-i.i (pos 0)) c.wide16-arg-1.given)),
+      turn a.part.now _ c.loop-i.i c.loop-i.part _ (omega arith) c.loop-i.invariant.3
+          (rw (got w32 c.silk_smulwb.type_inv c.silk_smulwb.ensures, got w32 c.wide16.type_inv c.wide16.ensures, kept w16 (get_or a.residual.now c.loop-i.i (pos 0)) c.wide16-arg-1.given)),
     )
 
 pub returns : goal.returns
 returns c =
-    let l = c.loop-i in
-    rw (l.invariant.3, le_antisymm l.invariant.1 c.loop-i-test.false, to_z-of_z c.ranges.inv_gain_q30)
+    let x = c.args.residual.now in
+    let g = c.args.inv_gain_q30 in
+    rw (
+      c.loop-i.invariant.3,
+      le_antisymm c.loop-i.invariant.0 c.loop-i-test.false ∙ c.requires,
+      to_z-of_z c.ranges.inv_gain_q30,
+      filled (tabulate (length x) (λ (k : ℕ). smulwb g (get_or x k (pos 0)))) c.args.part.now (length x) (omega arith),
+    )
+    (map-table (smulwb g) x)

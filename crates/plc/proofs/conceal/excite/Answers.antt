@@ -23,18 +23,18 @@ loop-i-preserved c =
     let m : a.at + (c.loop-i.i + 1) ≡ suc (a.at + c.loop-i.i) = omega arith in (
       search rules,
       search rules,
-      λ z. rw (got w32 c.silk_rand-seed.type_inv c.silk_rand-seed.ensures, c.loop-i.invariant.2 z, add-one) (seed_more a.exc.now a.from a.lag c.loop-i.i _),
+      λ z. rw (got w32 c.silk_rand-seed.type_inv c.silk_rand-seed.ensures, c.loop-i.invariant.2 z, add-one) (seed_more a.noise.now 0 a.lag c.loop-i.i _),
       λ z. rw (
         m,
         add-one,
         got w32 c.excited_sample.type_inv c.excited_sample.ensures,
         got w32 c.ltp_prediction-p.type_inv c.ltp_prediction-p.ensures,
-        kept w32 _ c.noise-1.given,
+        kept w32 _ c.drawn-1.given,
         c.noise_index.ensures.0,
         got w32 c.silk_rand-seed.type_inv c.silk_rand-seed.ensures,
         c.loop-i.invariant.2 z,
       )
-          (past_more a.exc.now a.from a.lag c.loop-i.i _ c.loop-i.buf (a.at + c.loop-i.i) (omega arith) (omega arith) (omega arith) (c.loop-i.invariant.3 z)),
+          (past_more a.noise.now 0 a.lag c.loop-i.i _ c.loop-i.buf (a.at + c.loop-i.i) _ (omega arith) (omega arith) (omega arith) (omega arith) (c.loop-i.invariant.3 z)),
     )
 
 pub returns : goal.returns

@@ -14,8 +14,8 @@ begun past taps scale seed pitch =
 abbrev pub invariant-loop-i : goal.invariant-loop-i
 invariant-loop-i l =
     (l.i ≤ l.n) × (length l.buf ≡ length l.initial.buf)
-    × ((z : ℤ) → l.seed ≡ (excited_times l.exc l.from l.lag l.i (begun (take l.at l.initial.buf) l.taps l.scale l.initial.seed z)).seed)
-    × ((z : ℤ) → take (l.at + l.i) l.buf ≡ (excited_times l.exc l.from l.lag l.i (begun (take l.at l.initial.buf) l.taps l.scale l.initial.seed z)).past)
+    × ((z : ℤ) → l.seed ≡ (excited_times l.noise 0 l.lag l.i (begun (take l.at l.initial.buf) l.taps l.scale l.initial.seed z)).seed)
+    × ((z : ℤ) → take (l.at + l.i) l.buf ≡ (excited_times l.noise 0 l.lag l.i (begun (take l.at l.initial.buf) l.taps l.scale l.initial.seed z)).past)
 
 abbrev pub decreases-loop-i : goal.decreases-loop-i
 decreases-loop-i l = l.n - l.i
