@@ -1,5 +1,5 @@
 // Yard recordings: the player.
-// Inner: every function but play.
+// Inner: every function but play and recording_plays.
 #![tactic(auto)]
 
 ghost use Rattle.std.specs.Prelude.{◌≡◌, ◌++◌, map, ◌*◌, ◌≤◌, IfOk, length, drop};

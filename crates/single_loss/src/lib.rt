@@ -1,5 +1,5 @@
 // The one frame that mattered: the smallest frame number of a recording whose loss alone brings a played sample beyond a limit in size.
-// Inner: every function but single_loss.
+// Inner: every function but single_loss and smallest_loss.
 #![tactic(auto)]
 
 ghost use Rattle.std.specs.Prelude.{◌≡◌};

@@ -66,7 +66,7 @@ pub enum Unplayed {
     Long,
 }
 
-// The same, as a program says it that has the streams of the decoder's rates `done`, as in "played".
+// The same in a program's words; `done` is what it does with streams of the known rates and counts, as "played".
 #[derive(Clone, Copy)]
 pub struct Told {
     pub why: Unplayed,

@@ -21,7 +21,7 @@ pub fn trial_refusal(rate: i32, subframes: i32, squelch: i32, frames: u32) -> Re
 }
 
 // Each listener's counts. The frames of a load are not decoded: what becomes of each follows from the links alone.
-// The parameters go apart, four to the judge and four to the listeners: a struct of them would be taken apart at once.
+// The seven parameters stand apart, as in the definition, which takes them one by one.
 pub fn run(
     rate: i32,
     subframes: i32,
