@@ -5,7 +5,7 @@
  * load (target/staticlib/libpost_load.a); any of the archives may be linked, alone or with others. They
  * are for x86-64 Linux alone. They call memcpy, memmove and memset and nothing else, and have no
  * variables of their own: calls on different states may run at the same time. A call takes up to
- * 34,296 bytes of stack (docs/DESIGN-PASS.md).
+ * 24,656 bytes of stack (docs/DESIGN-PASS.md).
  *
  * A slice is a pointer and the count of its elements. The slices of one call may not overlap, not
  * even pulses and output: the proofs rest on it.

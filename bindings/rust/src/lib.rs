@@ -1,7 +1,7 @@
 //! The yard post's SILK back end: parameters of a frame in, samples out.
 //!
 //! [`Post`] owns a decoder's state. A frame is played by [`Post::received`] or [`Post::lost`]; one that the
-//! back end turns down leaves the state, the description and the output as they were. A call takes up to 34,296
+//! back end turns down leaves the state, the description and the output as they were. A call takes up to 24,656
 //! bytes of stack. The library, which `tools/staticlib post` builds or POST_LIBRARY names, is for x86-64 Linux alone. With the feature `filters`,
 //! which is on unless it is turned off, `tools/staticlib post_filters` builds the functions of filters: [`stability`], [`sentence`], [`filter`],
 //! [`cosine`] and [`is_rising`].

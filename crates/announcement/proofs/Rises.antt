@@ -83,7 +83,7 @@ pub exactly : (lines : List ℤ) (d : ℕ) → (d ≡ 10) ⊎ (d ≡ 16) → (ri
 exactly lines d (inl p) = rw p (rises lines 9, risen lines 9)
 exactly lines d (inr p) = rw p (rises lines 15, risen lines 15)
 
-pub rising-exactly : RisingExactly
-rising-exactly lines d o h =
+pub rising_exactly : RisingExactly
+rising_exactly lines d o h =
     let x = exactly lines d o in
     rw (answered lines d o h) (λ r e. cc, λ e. x.0 cc, λ r. rw (x.1 r) refl)

@@ -60,8 +60,8 @@ yes_rises lines d = go (rising_refused (length lines) d)
     go true e = cc
     go false e = cc
 
-pub rising-accepted : RisingAccepted
-rising-accepted n lines d e y k = never_nine n lines d e (yes_rises lines d y) (ap code_of k)
+pub rising_accepted : RisingAccepted
+rising_accepted n lines d e y k = never_nine n lines d e (yes_rises lines d y) (ap code_of k)
 
 order_taken : (n m d : ℕ) → (d ≡ 10) ⊎ (d ≡ 16) → d ≤ n → d ≤ m → order_refused n m d ≡ false
 order_taken n m d (inl p) h k = rw (p, le-ltb n 10 (omega arith), le-ltb m 10 (omega arith)) refl

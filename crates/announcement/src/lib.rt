@@ -57,16 +57,19 @@ pub fn rising_check(nlsf: &[i16], d: usize) -> Result<bool, Refusal>
 }
 
 // The check answers yes exactly if the lines rise.
+#[tactic(auto, using(crate::proofs::Rises::rising_exactly))]
 pub fn rising_exactly()
     ensures { RisingExactly }
 {}
 
 // The filter from lines never refuses lines that rise by row 9.
+#[tactic(auto, using(crate::proofs::Taken::rising_accepted))]
 pub fn rising_accepted()
     ensures { RisingAccepted }
 {}
 
 // The filter from lines takes lines in any order.
+#[tactic(auto, using(crate::proofs::Taken::any_order))]
 pub fn any_order()
     ensures { AnyOrder }
 {}

@@ -1,4 +1,4 @@
-// Document 01's test bench. The claim has no code: it is a contract.
+// Document 01's test bench.
 #![tactic(auto)]
 
 ghost use Rattle.std.specs.Prelude.{◌≡◌, true};

@@ -10,7 +10,7 @@ use lib.Dec.{eqb, ltb, leb}
 use lib.ListN.{length, take, set, replicate, length-append}
 use Rattle.std.specs.Prelude.{Some, None}
 use lib.Seq.{set_at, append_snoc, length-take-le, take-suc-set}
-use Rattle.chain.specs.Chain.{is_whole, records_in, next_of, is_among, chain_from, chain_of, padded, order, order_of}
+use Rattle.chain.specs.Chain.{is_whole, records_in, next_of, is_among, chain_from, chain_of, padded, route_of}
 
 -- what a whole length has
 pub record Whole (n : ℕ) : Type 0 where
@@ -73,8 +73,8 @@ records_more r k v l h e =
     ∙ padded-more (take k r) v (omega arith)
     ∙ ap padded (sym (rw (add-one k) (take-suc-set r k v (omega arith))))
 
-pub order_through : (b r : List ℕ) (k : ℕ) → chain_of b ≡ Some (take k r) → r ≡ padded (take k r) → length r ≡ 60 → k ≤ 60
-    → Some (record { frames = k; records = r }) ≡ order_of (chain_of b)
-order_through b r k e p l h =
+pub route_through : (b r : List ℕ) (k : ℕ) → chain_of b ≡ Some (take k r) → r ≡ padded (take k r) → length r ≡ 60 → k ≤ 60
+    → Some (record { frames = k; records = r }) ≡ route_of (chain_of b)
+route_through b r k e p l h =
     let n : length (take k r) ≡ k = length-take-le k r (omega arith) in
-    (λ i. Some (record { frames = sym n i; records = p i })) ∙ ap order_of (sym e)
+    (λ i. Some (record { frames = sym n i; records = p i })) ∙ ap route_of (sym e)

@@ -1,7 +1,7 @@
 -- Document 02, Note 9: records of 1,024 bytes, numbered from 0, and the chain through them.
 use Rattle.std.specs.Prelude.{ℕ, zero, suc, ◌-◌, ◌*◌, ◌/◌, ◌%◌, Bool, true, false, cond, ◌&&◌, ◌||◌, List, [], ◌∷◌, ◌++◌, eqb, ltb, leb, length, replicate, Option, Some, None}
 use Rattle.le.specs.Bytes.{unsigned_at}
-use Rattle.chain.specs.declared.Order.{Order}
+use Rattle.chain.specs.declared.Route.{Route}
 
 -- a length is that of 1 to 60 whole records
 unfoldable pub is_whole : ℕ → Bool
@@ -47,10 +47,10 @@ unfoldable pub padded : List ℕ → List ℕ
 padded ks = ks ++ replicate (60 - length ks) 0
 
 -- the records on a chain, as the code has them
-abbrev pub order : List ℕ → Order
-order ks = record { frames = length ks; records = padded ks }
+abbrev pub route : List ℕ → Route
+route ks = record { frames = length ks; records = padded ks }
 
 -- a chain as the code has it
-abbrev pub order_of : Option (List ℕ) → Option Order
-order_of (Some ks) = Some (order ks)
-order_of None = None
+abbrev pub route_of : Option (List ℕ) → Option Route
+route_of (Some ks) = Some (route ks)
+route_of None = None

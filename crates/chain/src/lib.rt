@@ -3,14 +3,14 @@
 #![tactic(auto)]
 
 ghost use Rattle.std.specs.Prelude.{◌≡◌, true, ◌+◌, ◌*◌, ◌≤◌, ◌<◌, length};
-ghost use Rattle.chain.specs.Chain.{is_whole, next_of, chain_of, order_of};
+ghost use Rattle.chain.specs.Chain.{is_whole, next_of, chain_of, route_of};
 ghost use Rattle.chain.specs.Claims.{ChainMeans, FewFrames};
 
 use le::Word;
 
 // The records of a chain's frames, in order. No heap: an array of the most records that there are, and their count.
 #[derive(Clone, Copy)]
-pub struct Order {
+pub struct Route {
     pub frames: usize,
     pub records: [u8; 60],
 }
@@ -31,18 +31,18 @@ fn next_of(bytes: &[u8], i: usize) -> usize
 }
 
 // None where the chain is broken.
-pub fn chain(bytes: &[u8]) -> Option<Order>
+pub fn chain(bytes: &[u8]) -> Option<Route>
     requires { is_whole (length bytes.now) ≡ true }
-    ensures { result ≡ order_of (chain_of bytes.now) }
+    ensures { result ≡ route_of (chain_of bytes.now) }
 {
     let n = bytes.len() / 1024;
     let mut records = [0; 60];
     let mut at = 0;
-    // k counts the frames: the loop goes along the chain, over no slice's elements.
+    // Each turn goes to the record that the turn before found, over no slice's elements: k counts the frames.
     for k in 0..n {
         let next = next_of(bytes, at);
         if next == 0 {
-            return Some(Order { frames: k, records });
+            return Some(Route { frames: k, records });
         }
         if k + 1 == n {
             return None;
@@ -59,8 +59,7 @@ pub fn chain(bytes: &[u8]) -> Option<Order>
     None
 }
 
-// The chain is broken exactly by a number past the end or met before, and reaches at most every record once. The claims have no code: each is a
-// contract.
+// The chain is broken exactly by a number past the end or met before, and reaches at most every record once.
 #[tactic(auto, using(crate::proofs::Chains::chain_means, crate::proofs::Chains::few))]
 pub fn chain_means()
     ensures { ChainMeans × FewFrames }

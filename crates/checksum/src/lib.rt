@@ -7,6 +7,7 @@ ghost use Rattle.checksum.specs.Sum.{mixed, sum_of};
 
 use word::{Number, add32, mul32};
 
+#[tactic(auto, unfolding(crate::specs::Sum::mixed))]
 fn mixed(h: i32, x: i32) -> i32
     ensures { result ≡ mixed h x }
 {
@@ -17,9 +18,5 @@ fn mixed(h: i32, x: i32) -> i32
 pub fn sum<T: Number>(h: i32, numbers: &[T]) -> i32
     ensures { result ≡ sum_of T.number h numbers.now }
 {
-    let mut s = h;
-    for x in numbers {
-        s = mixed(s, x.number());
-    }
-    s
+    numbers.iter().fold(h, |s, x| mixed(s, x.number()))
 }

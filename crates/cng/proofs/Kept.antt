@@ -2,7 +2,7 @@
 use Prim.Native.Nat.{ℕ, zero, suc, ◌-◌, ◌*◌, ◌<◌, ◌≤◌}
 use mathlib.Core.Path.{◌≡◌, refl, sym, ◌∙◌}
 use mathlib.Core.Bool.{Bool, true, false, cond}
-use mathlib.Core.List.{List, [], ◌∷◌, ◌++◌}
+use mathlib.Core.List.{List, ◌++◌}
 use native.Mathlib.Omega.{arith}
 use lib.IntN.{ℤ, pos, ◌+ℤ◌, ◌-ℤ◌}
 use lib.ListN.{get_or, take, drop, replicate, length-append, length-drop, get_or-append}
@@ -12,11 +12,12 @@ use mir.Val.{SFits}
 use Rattle.word.specs.Int.{eq_ℤ, wrap32}
 use Rattle.word.specs.Tabulate.{tabulate}
 use Rattle.word.proofs.Lists.{length-tabulate, get_or-tabulate}
-use Rattle.word.proofs.Order.{eq_ℤ_true, sat16-fits}
+use Rattle.word.proofs.Fits.{zero_fits, AllFit, append-fits, drop-fits, tabulate-fits}
+use Rattle.word.proofs.Order.{eq_ℤ_true, cond_fits, sat16-fits}
 use Rattle.word.proofs.Sizes.{abs-fits}
 use Rattle.word.proofs.Words.{wrap-fits}
 use Rattle.macros.specs.Fixed.{smulww, smulwb}
-use Rattle.macros.proofs.Ranges.{rand-fits, cond_fits}
+use Rattle.macros.proofs.Ranges.{rand-fits}
 use Rattle.sigproc.proofs.Ranges.{synthesis-fits}
 use Rattle.shape.specs.Shape.{Shape, order_of, rate_of, count_of}
 use Rattle.shape.proofs.Shapes.{Shaped}
@@ -29,7 +30,7 @@ use Rattle.decoder.specs.declared.SilkDecoderState.{SilkDecoderState}
 use Rattle.decoder.proofs.Between.{either, AllBetween}
 use Rattle.decoder.proofs.Bounds.{CngHeldBounds, CngBounds, cng_fits_lem}
 use Rattle.decoder.proofs.Built.{typed_noise}
-use Rattle.decoder.proofs.Types.{AllFit, zero_fits, nil_fits, cons_fits, append-fits, drop-fits, append-words, take_words, drop-words, zeros-words}
+use Rattle.decoder.proofs.Types.{append-words, take_words, drop-words, zeros-words}
 use Rattle.cng.specs.Noise.{flat_line, cng_reset, cng_ready, smoothed_line, smoothed_lines, next_gain, smoothed_gain, moved_in, tracked, seed_at, noise_signal, silenced, sounded, added_to, comfort_noise}
 use Rattle.cng.proofs.Numbers.{flat_le}
 use Rattle.cng.proofs.Places.{room, place_lt}
@@ -87,18 +88,12 @@ pub comfort_fits : (s : SilkDecoderState) (gains : List ℤ) (n : ℕ) (frame : 
 comfort_fits s gains n frame low b lines g = cng_fits_lem _ _ (λ _. comfort_held s gains n frame low b lines g)
 
 -- ---- types
-table_fits : {w : Width} (n : ℕ) (f : ℕ → ℤ) → ((i : ℕ) → i < n → SFits w (f i)) → AllFit w (tabulate n f)
-unfolding tabulate
-table_fits {w} zero f h i = zero_fits w
-table_fits (suc n) f h i =
-    append-fits (tabulate n f) (f n ∷ []) (table_fits n f (λ i l. h i (omega arith))) (cons_fits [] (h n (omega arith)) nil_fits) i
-
 -- the first n of m numbers replaced by a table
 table-words : {w : Width} (m n : ℕ) (f : ℕ → ℤ) (xs : List ℤ) → n ≤ m → ((i : ℕ) → i < n → SFits w (f i)) → Words w m xs → Words w m (tabulate n f ++ drop n xs)
 table-words m n f xs l h k =
     record {
       count = let c = k.count in length-append (tabulate n f) (drop n xs) ∙ omega (arith, length-tabulate n f, length-drop n xs);
-      fits = append-fits (tabulate n f) (drop n xs) (table_fits n f h) (drop-fits n xs k.fits);
+      fits = append-fits (tabulate n f) (drop n xs) (tabulate-fits n f h) (drop-fits n xs k.fits);
     }
 
 flat_fits : (d i : ℕ) → i < d → SFits w16 (flat_line d i)

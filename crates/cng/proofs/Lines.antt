@@ -1,5 +1,5 @@
 -- Noise at its rate: its lines are not negative, and its gain is in range.
-use Prim.Native.Nat.{ℕ, zero, suc, ◌<◌}
+use Prim.Native.Nat.{ℕ, ◌<◌}
 use mathlib.Core.Path.{◌≡◌, refl, sym, ◌∙◌}
 use mathlib.Core.Bool.{Bool, true, false, cond}
 use mathlib.Core.List.{List, ◌++◌}
@@ -14,6 +14,7 @@ use Rattle.word.specs.Tabulate.{tabulate}
 use Rattle.word.proofs.Lists.{length-tabulate, get_or-tabulate}
 use Rattle.word.proofs.Order.{eq_ℤ_true}
 use Rattle.nlsf.specs.Lines.{negative_line}
+use Rattle.nlsf.proofs.Lines.{nonneg_lines}
 use Rattle.shape.specs.Shape.{order_of}
 use Rattle.decoder.specs.declared.SilkCNGState.{SilkCNGState}
 use Rattle.decoder.proofs.Between.{Between, AllBetween}
@@ -26,10 +27,7 @@ natural (pos n) e = le-ltb n 0 (omega arith)
 natural (negsuc n) e = cc
 
 pub none_negative : (lines : List ℤ) (n : ℕ) → AllBetween 0 32767 lines n → negative_line lines n ≡ false
-unfolding negative_line
-none_negative lines zero h = refl
-none_negative lines (suc n) h =
-    rw (none_negative lines n (λ i l. h i (omega arith))) (natural (get_or lines n (pos 0)) (h n (omega arith)).is)
+none_negative lines n h = nonneg_lines lines n (λ k l. natural (get_or lines k (pos 0)) (h k l).is)
 
 flat_between : (d i : ℕ) → i < d → Between 0 32767 (flat_line d i)
 unfolding flat_line

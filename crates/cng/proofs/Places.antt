@@ -1,18 +1,18 @@
 -- The excitation moved along by a subframe.
 use Prim.Native.Nat.{ℕ, zero, suc, ◌+◌, ◌-◌, ◌*◌, ◌<◌, ◌≤◌}
 use mathlib.Core.Path.{◌≡◌, refl, sym, ap, ◌∙◌}
-use mathlib.Core.Bool.{Bool, true, false, cond}
 use mathlib.Core.List.{List, ◌++◌, append_assoc}
 use native.Mathlib.Omega.{arith}
 use native.Mathlib.Nat.{zero-add, suc-mul, mul-le-mul, mul-le-mul_right}
-use lib.ListN.{length, get_or, take, drop, length-drop}
+use lib.ListN.{length, take, drop, length-drop}
 use lib.Seq.{drop_at, length-take-le, get_or-take}
 use lib.IntN.{ℤ, pos}
-use lib.Signed.{lt_z}
-use Rattle.std.specs.List.{copy_within}
+use Rattle.std.specs.List.{copy_within, fold}
 use Rattle.sigproc.specs.Place.{put_at}
-use Rattle.cng.specs.Noise.{louder, loudest, smoothed_gain, moved_in}
-use Rattle.cng.specs.declared.MaxGain.{MaxGain}
+use Rattle.nlsf.specs.Fit.{largest_by}
+use Rattle.nlsf.proofs.Rounds.{largest_place}
+use Rattle.stability.proofs.Sums.{fold_by_place}
+use Rattle.cng.specs.Noise.{loudest, next_gain, smoothed_gain, moved_in}
 
 -- the products of a subframe's length
 pub room : (k n l : ℕ) → k < n → n ≤ 4 → l ≤ 80 → (k * l + l ≤ n * l) × (n * l ≤ 320) × (l + (n - 1) * l ≡ n * l)
@@ -42,25 +42,12 @@ moved held exc l n k hh he hk hn hl =
     e ∙ sym (append_assoc a b rest) ∙ ap (λ (j : ℕ). (a ++ b) ++ drop j held) r.2
 
 -- the loudest of n gains is one of them
-louder_le : (p : MaxGain) (g : ℤ) (k : ℕ) → p.place ≤ k → (louder p g k).place ≤ k
-unfolding louder
-louder_le p g k h = go (lt_z p.gain g)
-  where
-    go : (t : Bool) → (cond {A = MaxGain} t (record { gain = g; place = k }) p).place ≤ k
-    go true = omega arith
-    go false = h
-
 pub place_lt : (gains : List ℤ) (n : ℕ) → 0 < n → (loudest gains n).place < n
-unfolding loudest
-place_lt gains zero h = h
-place_lt gains (suc zero) h = omega (arith, louder_le (record { gain = pos 0; place = 0 }) (get_or gains 0 (pos 0)) 0 (omega arith))
-place_lt gains (suc (suc k)) h =
-    let i = place_lt gains (suc k) (omega arith) in
-    omega (arith, louder_le (loudest gains (suc k)) (get_or gains (suc k) (pos 0)) (suc k) (omega arith))
+place_lt gains n h = omega (arith, largest_place (λ g. g) gains n)
 
 -- only the first gains count
 pub loudest_front : (gains : List ℤ) (m n : ℕ) → n ≤ m → loudest (take m gains) n ≡ loudest gains n
-unfolding loudest
+unfolding largest_by
 loudest_front gains m zero h = refl
 loudest_front gains m (suc n) h =
     rw (loudest_front gains m n (omega arith), get_or-take m gains n (pos 0) h) refl
@@ -70,3 +57,7 @@ unfolding smoothed_gain
 gain_front held gains m zero h = refl
 gain_front held gains m (suc n) h =
     rw (gain_front held gains m n (omega arith), get_or-take m gains n (pos 0) h) refl
+
+pub gain_by_fold : (held : ℤ) (gains : List ℤ) → fold next_gain held gains ≡ smoothed_gain held gains (length gains)
+unfolding smoothed_gain
+gain_by_fold held gains = fold_by_place next_gain (smoothed_gain held gains) gains (pos 0) (λ n h. refl)

@@ -1,16 +1,16 @@
 -- The noise in its buffer.
-use Prim.Native.Nat.{ℕ, zero, suc, ◌+◌, ◌-◌, ◌<◌, ◌≤◌}
+use Prim.Native.Nat.{ℕ, zero, suc, ◌+◌, ◌-◌, ◌≤◌}
 use mathlib.Core.Path.{◌≡◌, refl, sym, ap, ◌∙◌}
-use mathlib.Core.List.{List, [], ◌∷◌, ◌++◌, append-nil}
+use mathlib.Core.List.{List, ◌++◌, append-nil}
 use native.Mathlib.Omega.{arith}
 use native.Mathlib.Nat.{zero-add}
 use borrow.Rule.Slice.PartMut.{put_mid}
-use lib.ListN.{set, replicate, length-replicate, length, get_or, take, drop, length-append, length-drop, drop_of_length-le, get_or-append}
+use lib.ListN.{length, get_or, take, drop, length-append, length-drop, drop_of_length-le, get_or-append}
 use lib.Seq.{take_at, drop_at, drop-append-le, get_or-drop}
 use lib.IntN.{ℤ, pos, ◌+ℤ◌}
 use Rattle.word.specs.Int.{sat16}
 use Rattle.word.specs.Tabulate.{tabulate}
-use Rattle.word.proofs.Lists.{length-tabulate, tabulate_cong, grow}
+use Rattle.word.proofs.Lists.{length-tabulate, tabulate_cong}
 use Rattle.sigproc.specs.Place.{put_at}
 use Rattle.sigproc.specs.Synthesis.{prediction, synthesis, played}
 use Rattle.sigproc.proofs.Filter.{synth_length}
@@ -48,16 +48,6 @@ signal mem u a z d n hm hu ha =
 pub length-drawn : (exc : List ℤ) (mask : ℕ) (seed : ℤ) (n : ℕ) → length (drawn exc mask seed n) ≡ n
 unfolding drawn
 length-drawn exc mask seed n = length-tabulate n _
-
--- a turn of a loop that zeroes a list from the front
-replicate_snoc : (n : ℕ) (v : ℤ) → replicate (suc n) v ≡ replicate n v ++ v ∷ []
-replicate_snoc zero v = refl
-replicate_snoc (suc n) v = ap (λ (r : List ℤ). v ∷ r) (replicate_snoc n v)
-
-pub more-zeros : (d : List ℤ) (i : ℕ) → i < length d → set (replicate i (pos 0) ++ drop i d) i (pos 0) ≡ replicate (suc i) (pos 0) ++ drop (suc i) d
-more-zeros d i h =
-    grow (replicate i (pos 0)) d i (pos 0) (length-replicate i (pos 0)) h
-    ∙ ap (λ (r : List ℤ). r ++ drop (suc i) d) (sym (replicate_snoc i (pos 0)))
 
 -- ---- the parts of the buffer after the synthesis
 pub noise_length : (e : ℤ) (d : ℕ) (h : SilkCNGState) (n : ℕ) → length h.cng_synth_state ≡ 16 → length (noise_signal e d h n) ≡ 16 + n

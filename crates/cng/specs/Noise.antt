@@ -5,13 +5,14 @@ use Rattle.word.specs.Int.{floor_div, mod_ℤ, eq_ℤ, wrap16, wrap32, sat16}
 use Rattle.word.specs.Tabulate.{tabulate}
 use Rattle.macros.specs.Fixed.{smulww, smulwb, smultt, rand, sqrt_approx}
 use Rattle.sigproc.specs.Synthesis.{synthesis, played}
+use Rattle.nlsf.specs.declared.Largest.{Largest}
+use Rattle.nlsf.specs.Fit.{largest_by}
 use Rattle.nlsf.specs.Filter.{nlsf2a}
 use Rattle.shape.specs.Shape.{Shape, subfr_length, order_of, lpc_order}
 use Rattle.decoder.specs.With.{with_noise}
 use Rattle.decoder.specs.Outcome.{Framed}
 use Rattle.decoder.specs.declared.SilkCNGState.{SilkCNGState}
 use Rattle.decoder.specs.declared.SilkDecoderState.{SilkDecoderState}
-use Rattle.cng.specs.declared.MaxGain.{MaxGain}
 
 abbrev pub hold_noise : List ℤ → List ℤ → List ℤ → ℤ → ℤ → ℤ → SilkCNGState
 hold_noise exc lines memory gain seed rate =
@@ -44,14 +45,9 @@ cng_ready r h = cond (eq_ℤ (pos r) h.fs_khz) h (cng_reset r h)
 unfoldable pub smoothed_line : ℤ → ℤ → ℤ
 smoothed_line held line = wrap16 (held +ℤ smulwb (line -ℤ held) (pos 16348))
 
--- the louder of what was found before and a gain at place k, the first of equals
-unfoldable pub louder : MaxGain → ℤ → ℕ → MaxGain
-louder b g k = cond (lt_z b.gain g) (record { gain = g; place = k }) b
-
 -- the largest of the first k gains and its place
-unfoldable pub loudest : List ℤ → ℕ → MaxGain
-loudest gains zero = record { gain = pos 0; place = 0 }
-loudest gains (suc k) = louder (loudest gains k) (get_or gains k (pos 0)) k
+abbrev pub loudest : List ℤ → ℕ → Largest
+loudest gains k = largest_by (λ g. g) gains k
 
 -- the held gain moved towards a gain, and down to one that lies 3 dB below it
 unfoldable pub next_gain : ℤ → ℤ → ℤ

@@ -12,24 +12,17 @@ ghost use Rattle.shape.specs.Order.{size};
 ghost use Rattle.shape.specs.Shape.{shape as shape_at, is_rate, is_count, rate_of, count_of, order_of};
 ghost use Rattle.decoder.specs.Ranges.{cng_fits};
 ghost use Rattle.decoder.specs.State.{shape_of};
-ghost use Rattle.cng.specs.Noise.{flat_line, cng_reset, cng_ready, smoothed_line, smoothed_lines, louder, loudest, next_gain, smoothed_gain, moved_in, tracked, noise_gain, exc_mask, Mask, seed_at, drawn, noise_signal, silenced, sounded, sounding, heard_noise, comfort_noise};
+ghost use Rattle.cng.specs.Noise.{flat_line, cng_reset, cng_ready, smoothed_line, smoothed_lines, loudest, next_gain, smoothed_gain, moved_in, tracked, noise_gain, exc_mask, Mask, seed_at, drawn, noise_signal, silenced, sounded, sounding, heard_noise, comfort_noise};
 ghost use Rattle.cng.specs.Answer.{cng_answer, cng_output};
 ghost use Rattle.cng.specs.Announced.{Announced};
 
 use decoder::{SilkCNGState, SilkDecoderControl, SilkDecoderState};
 use macros::{silk_add_sat16, silk_rand, silk_smultt, silk_smulwb, silk_smulww, silk_sqrt_approx};
-use nlsf::nlsf2a;
+use nlsf::{largest_by, nlsf2a};
 use refusal::Refusal;
 use shape::{FrameShape, Order, Rate, count_of};
 use sigproc::{copy_at, played_sample, synthesis};
 use word::{add32, bits32, low16, shl32, shr32, sub32, wide16};
-
-// The largest gain and its subframe.
-#[derive(Clone, Copy)]
-struct MaxGain {
-    gain: i32,
-    place: usize,
-}
 
 fn flat_line(order: Order, i: usize) -> i16
     requires { i < size order }
@@ -77,18 +70,9 @@ fn smoothed_line(held: i16, line: i16) -> i16
 fn smoothed_lines(held: &mut [i16; 16], lines: [i16; 16], order: Order)
     ensures { held.new ≡ smoothed_lines held.old lines (size order) }
 {
+    // Not a zip: after one over `iter_mut` only the length of held is known.
     for (i, line) in held[..order.size()].iter_mut().enumerate() {
         *line = smoothed_line(*line, lines[i]);
-    }
-}
-
-fn louder(b: MaxGain, g: i32, k: usize) -> MaxGain
-    ensures { result ≡ louder b g k }
-{
-    if g > b.gain {
-        MaxGain { gain: g, place: k }
-    } else {
-        b
     }
 }
 
@@ -96,11 +80,7 @@ fn louder(b: MaxGain, g: i32, k: usize) -> MaxGain
 fn loudest(gains: &[i32]) -> usize
     ensures { result ≡ (loudest gains.now (length gains.now)).place }
 {
-    let mut b = MaxGain { gain: 0, place: 0 };
-    for (k, g) in gains.iter().enumerate() {
-        b = louder(b, *g, k);
-    }
-    b.place
+    largest_by(gains, |g| g).place
 }
 
 fn next_gain(held: i32, g: i32) -> i32
@@ -117,11 +97,7 @@ fn next_gain(held: i32, g: i32) -> i32
 fn smoothed_gain(held: i32, gains: &[i32]) -> i32
     ensures { result ≡ smoothed_gain held gains.now (length gains.now) }
 {
-    let mut gain = held;
-    for g in gains {
-        gain = next_gain(gain, *g);
-    }
-    gain
+    gains.iter().fold(held, |gain, g| next_gain(gain, *g))
 }
 
 // Subframe k, of l samples, in front of the held ones.
@@ -265,7 +241,7 @@ pub fn received(
     silenced(h, shape.order());
 }
 
-// Noise added to a lost frame. Its length is asked as a clause: as a type it would wrap the slice that each caller lends.
+// Noise added to a lost frame; of a FrameShape the count would not be read, and a type of short frames would be made for a single call.
 pub fn lost(h: &mut SilkCNGState, khz: i32, edition: i32, scale: i16, last: i32, frame: &mut [i16])
     requires { (is_rate khz ≡ true) × (cng_fits (rate_of khz) h.old ≡ true) × (length frame.old ≤ 320) }
     ensures { (h.new ≡ sounded edition (order_of (rate_of khz)) (cng_ready (rate_of khz) h.old) (length frame.old))
@@ -290,7 +266,7 @@ pub fn lost(h: &mut SilkCNGState, khz: i32, edition: i32, scale: i16, last: i32,
     h.rand_seed = seed;
 }
 
-// Comfort noise for a whole frame.
+// Comfort noise for a whole frame. The shape's facts are clauses of the state's own fields: a FrameShape beside the state could be another one.
 fn comfort_noise(s: SilkDecoderState, gains: &[i32; 4], frame: &mut [i16]) -> SilkDecoderState
     requires { (is_rate s.fs_khz ≡ true) × (is_count s.nb_subfr ≡ true) × (cng_fits (rate_of s.fs_khz) s.s_cng ≡ true) × (length frame.old ≤ 320) }
     ensures { record { state = result; frame = frame.new } ≡ comfort_noise (shape_of s) s gains.now (length frame.old) frame.old }
@@ -299,30 +275,29 @@ fn comfort_noise(s: SilkDecoderState, gains: &[i32; 4], frame: &mut [i16]) -> Si
         fs_khz: s.fs_khz,
         nb_subfr: s.nb_subfr,
     };
-    // With `..s` the proof would have to read back each number that is kept.
-    let mut t = s;
+    let mut s_cng = s.s_cng;
     if s.loss_cnt == 0 {
         received(
-            &mut t.s_cng,
+            &mut s_cng,
             &s.exc_q14,
             s.prev_nlsf_q15,
             gains,
             shape,
             s.prev_signal_type,
         );
-        return t;
+        return SilkDecoderState { s_cng, ..s };
     }
     let plc = s.s_plc;
     let settings = s.settings;
     lost(
-        &mut t.s_cng,
+        &mut s_cng,
         s.fs_khz,
         settings.edition,
         plc.rand_scale_q14,
         plc.prev_gain_q16[1],
         frame,
     );
-    t
+    SilkDecoderState { s_cng, ..s }
 }
 
 // Comfort noise as a call on the first n samples of a buffer: refused, it changes nothing.
@@ -340,6 +315,7 @@ pub fn silk_cng(
 }
 
 // The filter from lines is the one that noise has from the same lines, under the same edition.
+#[tactic(auto, using(crate::proofs::Filters::announced))]
 pub fn announced()
     ensures { Announced }
 {}

@@ -29,13 +29,13 @@ abbrev pub bad : Result Entry Bad
 bad = Err (record {})
 
 -- what the end of a number leaves, of its size
-unfoldable pub left_by : Entry → Option ℕ → Result Entry Bad
-left_by e (Some size) = cond (fits e size) (Ok (stored e size)) bad
-left_by e None = cond e.negative bad (Ok e)
+unfoldable pub size_ended : Entry → Option ℕ → Result Entry Bad
+size_ended e (Some size) = cond (fits e size) (Ok (stored e size)) bad
+size_ended e None = cond e.negative bad (Ok e)
 
 -- a number ends; a minus sign with no digit behind it is bad
 unfoldable pub ended : Entry → Result Entry Bad
-ended e = left_by e e.size
+ended e = size_ended e e.size
 
 -- a minus sign begins a number
 unfoldable pub minus : Entry → Result Entry Bad

@@ -1,4 +1,5 @@
 // An edition and coefficients on a line of text, read byte by byte: up to 17 whole numbers of 16 bits, with blanks or commas between them.
+// Apart from `line`: here a byte, a number or a count of numbers that does not belong makes the line bad, there all but the numbers is passed over.
 // Inner: every function.
 #![tactic(auto)]
 
@@ -69,7 +70,7 @@ fn stored(e: Entry, size: usize) -> Entry
 }
 
 // A number's end, or that of the line: a minus sign alone is bad.
-#[tactic(auto, unfolding(crate::specs::Line::ended, crate::specs::Line::left_by))]
+#[tactic(auto, unfolding(crate::specs::Line::ended, crate::specs::Line::size_ended))]
 pub fn ended(e: Entry) -> Result<Entry, Bad>
     ensures { result ≡ ended e }
 {

@@ -1,10 +1,12 @@
 -- Frames played from a state on, one at a time; a prefix that passes nothing need not be played again.
 use Prim.Native.Nat.{ℕ, zero, suc, ◌+◌, ◌-◌, ◌<◌}
 use mathlib.Core.Path.{◌≡◌, refl, sym, ap, ◌∙◌}
-use mathlib.Core.Bool.{Bool, true, false, cond, ◌&&◌, ◌||◌, false≢true}
+use mathlib.Core.Bool.{Bool, true, false, cond, ◌&&◌, ◌||◌}
 use mathlib.Core.List.{List, [], ◌∷◌, map}
 use native.Mathlib.Omega.{arith}
 use Rattle.std.specs.Prelude.{Some, None}
+use Rattle.std.proofs.lemmas.Bool.{or_parts}
+use Rattle.std.proofs.lemmas.List.{drop-map, get_or-map}
 use lib.IntN.{ℤ}
 use lib.ListN.{length, length-map, get_or, take, drop, drop_of_length-le}
 use lib.Seq.{drop-cons, get_or-drop}
@@ -19,10 +21,6 @@ use Rattle.heard.specs.Loud.{any_beyond, heard_of}
 use Rattle.heard.specs.declared.Heard.{Heard}
 use Rattle.heard.proofs.Laws.{beyond-append}
 use Rattle.culprit.specs.Search.{losing, was_received, passes, is_culprit, first_from}
-
-split : (a b : Bool) → (a || b) ≡ false → (a ≡ false) × (b ≡ false)
-split true b e = absurd (false≢true (sym e))
-split false b e = (refl, e)
 
 pub or_true : (a b : Bool) → a ≡ true → (a || b) ≡ true
 or_true a b e = ap (λ (t : Bool). t || b) e
@@ -83,7 +81,7 @@ module _ (l khz nb : ℤ) where
   from_the_loss s [] k h e = absurd (omega (arith, h))
   from_the_loss s (x ∷ xs) zero h e = refl
   from_the_loss s (x ∷ xs) (suc k) h e =
-      let p = split (loud s x) (passes l khz nb (after s x) xs) (sym (passes_cons s x xs) ∙ e) in
+      let p = or_parts (loud s x) (passes l khz nb (after s x) xs) (sym (passes_cons s x xs) ∙ e) in
       passes_cons s x (losing xs k) ∙ ap (λ (t : Bool). t || passes l khz nb (after s x) (losing xs k)) p.0
       ∙ from_the_loss (after s x) xs k (omega (arith, h)) p.1
 
@@ -111,16 +109,6 @@ unfolding first_from
 first-none f n = let z : n - n ≡ 0 = omega arith in ap (first_from f n) z
 
 -- ---- the frames of the first n of some records
-map-drop : {A B : Type 0} (f : A → B) (k : ℕ) (xs : List A) → drop k (map f xs) ≡ map f (drop k xs)
-map-drop f zero xs = refl
-map-drop f (suc k) [] = refl
-map-drop f (suc k) (x ∷ xs) = map-drop f k xs
-
-map_get : {A B : Type 0} (f : A → B) (xs : List A) (k : ℕ) (a : A) (b : B) → k < length xs → get_or (map f xs) k b ≡ f (get_or xs k a)
-map_get f [] k a b h = absurd (omega (arith, h))
-map_get f (x ∷ xs) zero a b h = refl
-map_get f (x ∷ xs) (suc k) a b h = map_get f xs k a b (omega (arith, h))
-
 -- records behind a place lie within the bytes too
 pub behind-lies : (b r : List ℕ) (k : ℕ) → Inside b r → Inside b (drop k r)
 behind-lies b r k h i = rw (get_or-drop k r i 0) (h (k + i))
@@ -133,7 +121,7 @@ module _ (f : ℕ → Recorded) (r : List ℕ) where
   frames_many = length-map r f
 
   pub frame_at : (k : ℕ) → k < length r → get_or frames k lost ≡ f (get_or r k 0)
-  frame_at k q = map_get f r k 0 lost q
+  frame_at k q = get_or-map f r k 0 lost q
 
   pub frames-from : (k : ℕ) → k < length r → map f (drop k r) ≡ f (get_or r k 0) ∷ map f (drop (suc k) r)
   frames-from k q = ap (map f) (drop-cons r k 0 q)
@@ -158,7 +146,7 @@ module _ (f : ℕ → Recorded) (r : List ℕ) where
       let a = frame_at k q in
       let b = from_the_loss l khz nb s frames k (omega (arith, frames_many, q)) e in
       let m : suc k ≡ k + 1 = omega arith in
-      let d : drop (suc k) frames ≡ map f (drop (k + 1) r) = map-drop f (suc k) r ∙ ap (λ (j : ℕ). map f (drop j r)) m in
+      let d : drop (suc k) frames ≡ map f (drop (k + 1) r) = drop-map f (suc k) r ∙ ap (λ (j : ℕ). map f (drop j r)) m in
       (λ i. was_received (a i) && b i) ∙ ap (λ (xs : List Recorded). was_received (f (get_or r k 0)) && passes l khz nb (state_at l khz nb s frames k) (lost ∷ xs)) d
 
   -- the state before the next frame

@@ -1,7 +1,8 @@
 // The first frame whose loss alone brings a played sample beyond a limit in size. The state before each frame is kept, so that frames before a loss
 // are not played again.
 // Inner: every function.
-// Rate, count and limit stay parameters, as in the definitions, which take the three one by one.
+// Rate, count and limit stay parameters: the definitions take them one by one, so that each clause below would take a struct of them apart, and
+// frame_sound, which takes no limit, would take a part of it.
 #![tactic(auto)]
 
 ghost use Rattle.std.specs.Prelude.{◌≡◌, false, ◌&&◌, ◌∷◌, map, length};
@@ -43,13 +44,13 @@ fn is_culprit(
     s: SilkDecoderState,
     khz: i32,
     nb_subfr: i32,
-    record: &Record,
+    r: &Record,
     behind: &Frames,
     limit: i32,
 ) -> bool
-    ensures { result ≡ (was_received (recorded_in record.now.bytes.now) && passes limit khz nb_subfr s (lost ∷ map (recorded_at behind.now.bytes.now) behind.now.records.now)) }
+    ensures { result ≡ (was_received (recorded_in r.now.bytes.now) && passes limit khz nb_subfr s (lost ∷ map (recorded_at behind.now.bytes.now) behind.now.records.now)) }
 {
-    record.is_received() && lost_passes(s, khz, nb_subfr, behind, limit)
+    r.is_received() && lost_passes(s, khz, nb_subfr, behind, limit)
 }
 
 // The first of the frames, counted from 1, if as recorded they don't pass the limit.

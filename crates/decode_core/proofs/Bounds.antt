@@ -1,27 +1,19 @@
 -- Bounds of a subframe's places.
-use Prim.Native.Nat.{ℕ, ◌+◌, ◌*◌, ◌^◌, ◌<◌, ◌≤◌}
+use Prim.Native.Nat.{ℕ, ◌+◌, ◌*◌, ◌<◌, ◌≤◌}
 use mathlib.Core.Path.{◌≡◌, refl}
 use mathlib.Core.Bool.{Bool, true, false, ◌&&◌, ◌||◌}
 use mathlib.Core.List.{List}
 use native.Mathlib.Omega.{arith}
 use native.Mathlib.Nat.{mul-le-mul}
 use borrow.Author.Tests.{eqb-true}
-use lib.Dec.{T, eqb}
-use lib.IntN.{ℤ, pos, negsuc, nat_abs}
-use lib.Signed.{non_neg, mag}
+use lib.Dec.{eqb}
+use lib.IntN.{ℤ}
 use lib.ListN.{length}
-use mir.Syntax.{w64}
-use mir.Val.{Fits}
 use Rattle.sigproc.proofs.Places.{length-put_at}
 use Rattle.decoder.specs.declared.SilkDecoderControl.{SilkDecoderControl}
 use Rattle.decode_core.specs.Core.{rewhitens, buffer_at}
 use Rattle.decode_core.specs.Ready.{Ready}
 use Rattle.decode_core.specs.declared.Setting.{Setting}
-
--- a number that is not negative is a length
-pub as_length : (z : ℤ) → z ≡ pos (nat_abs z) → mag z < 2 ^ 31 → T (non_neg z) × Fits w64 (nat_abs z)
-as_length (pos n) e h = (tt, record { fits = omega arith })
-as_length (negsuc n) e h = let z : ◌≡◌ {A = ℕ} 0 1 = cc in absurd (omega arith)
 
 -- rewhitening runs in subframes 0 and 2 alone
 whitening : (f : Setting) (k : ℕ) → k < 4 → rewhitens f k ≡ true → k ≤ 2

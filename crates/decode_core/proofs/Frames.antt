@@ -4,12 +4,11 @@ use mathlib.Core.Path.{◌≡◌, refl, sym, ap, ◌∙◌}
 use mathlib.Core.List.{List, [], ◌∷◌, ◌++◌}
 use native.Mathlib.Nat.{le_of_suc-le-suc, not-suc-le-zero}
 use native.Mathlib.Omega.{arith}
-use lib.Dec.{lit<}
 use lib.IntN.{ℤ, pos}
-use lib.ListN.{length, get_or, take, drop, replicate, length-append, length-replicate, take-append-drop}
+use lib.ListN.{length, take, drop, replicate, length-append, length-replicate, take-append-drop}
 use lib.Seq.{take_at, take-take, length-take-le}
 use mir.Syntax.{w32}
-use mir.Val.{SFits}
+use Rattle.word.proofs.Fits.{zero_fits, replicate-fits}
 use Rattle.sigproc.specs.Place.{put_at}
 use Rattle.decoder.specs.Typed.{Words}
 use Rattle.shape.specs.Shape.{frame_length, count_of}
@@ -25,13 +24,8 @@ use Rattle.decode_core.specs.declared.Setting.{Setting}
 use Rattle.decode_core.specs.declared.Carried.{Carried}
 
 -- ---- silence
-zeros-fit : (n i : ℕ) → SFits w32 (get_or (replicate n (pos 0)) i (pos 0))
-zeros-fit zero i = record { sfits = lit< tt }
-zeros-fit (suc n) zero = record { sfits = lit< tt }
-zeros-fit (suc n) (suc i) = zeros-fit n i
-
 pub zeros-words : (z : List ℤ) → z ≡ replicate 640 (pos 0) → Words w32 640 z
-zeros-words z e = record { count = ap length e ∙ length-replicate 640 (pos 0); fits = rw e (zeros-fit 640) }
+zeros-words z e = record { count = ap length e ∙ length-replicate 640 (pos 0); fits = rw e (replicate-fits 640 (zero_fits w32)) }
 
 pub take-zeros : (n m : ℕ) → n ≤ m → take n (replicate m (pos 0)) ≡ replicate n (pos 0)
 take-zeros zero m h = refl

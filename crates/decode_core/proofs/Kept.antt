@@ -18,12 +18,13 @@ use Rattle.word.specs.Int.{eq_ℤ}
 use Rattle.word.proofs.Lists.{length_snoc}
 use Rattle.word.proofs.Sizes.{abs-add, abs-sub, abs-mul, abs_neg, abs-fits, fits-abs}
 use Rattle.macros.specs.Fixed.{rand, smulww}
+use Rattle.word.proofs.Fits.{zero_fits, AllFit, append-fits, one-fits, drop-fits, set-fits, replicate-fits, map-fits}
 use Rattle.macros.proofs.Ranges.{smulww-fits}
 use Rattle.sigproc.specs.Place.{put_at}
-use Rattle.sigproc.proofs.Fill.{length-map}
+use Rattle.std.proofs.lemmas.List.{length-map}
 use Rattle.sigproc.proofs.Places.{length-put_at}
 use Rattle.sigproc.proofs.Filter.{memory_length}
-use Rattle.sigproc.proofs.Ranges.{Fit, append-fits, one-fits, drop-fits, set-fits, map-fits, put_at-fits, synthesis-fits}
+use Rattle.sigproc.proofs.Ranges.{put_at-fits, synthesis-fits}
 use Rattle.sigproc.proofs.Frames.{played-length, played-frame}
 use Rattle.shape.specs.Shape.{Shape, subfr_length, frame_length}
 use Rattle.shape.proofs.Shapes.{Shaped}
@@ -32,7 +33,7 @@ use Rattle.decoder.specs.Typed.{Words, Typed, TypedControl}
 use Rattle.decoder.specs.declared.SilkDecoderState.{SilkDecoderState}
 use Rattle.decoder.specs.declared.SilkDecoderControl.{SilkDecoderControl}
 use Rattle.decoder.specs.declared.Params.{Params}
-use Rattle.decoder.proofs.Types.{zero_fits, replicate-fits, set_words}
+use Rattle.decoder.proofs.Types.{set_words}
 use Rattle.decoder.proofs.Built.{words, words-front, typed_gain, typed_exc, typed_memory, typed_out_buf}
 use Rattle.excitation.specs.Excitation.{offset_q14, level, excited, generator_at, excitation}
 use Rattle.decode_core.specs.Core.{Core, transition, transits, held_lag, smoothed, gain_adjustment, setting_of, long, rewhitens, control_at, buffer_at, subframe, subframes, start, core_excitation, decode_core}
@@ -69,7 +70,7 @@ excited-fits o g x h f = go (lt_z g (pos 0))
     go true = abs-fits _ (omega (arith, abs_neg (level x +ℤ o), small))
     go false = abs-fits _ (omega (arith, small))
 
-excitation-words : (o : ℤ) (pulses : List ℤ) (seed : ℤ) → nat_abs o ≤ 3840 → Fit w16 pulses → (n : ℕ) → Words w32 n (excitation o pulses seed n)
+excitation-words : (o : ℤ) (pulses : List ℤ) (seed : ℤ) → nat_abs o ≤ 3840 → AllFit w16 pulses → (n : ℕ) → Words w32 n (excitation o pulses seed n)
 unfolding excitation
 excitation-words o pulses seed h f zero = words refl (λ i. record { sfits = omega arith })
 excitation-words o pulses seed h f (suc n) =
@@ -112,8 +113,8 @@ smoothed_typed c lag k t l h =
     middle : List ℤ
     middle = pos 0 ∷ pos 0 ∷ pos 4096 ∷ pos 0 ∷ pos 0 ∷ []
 
-    middle-fits : Fit w16 middle
-    middle-fits = set-fits (replicate 5 (pos 0)) 2 (pos 4096) (replicate-fits 5 (zero_fits w16)) (record { sfits = omega arith })
+    middle-fits : AllFit w16 middle
+    middle-fits = set-fits (replicate 5 (pos 0)) 2 (replicate-fits 5 (zero_fits w16)) (record { sfits = omega arith })
 
 held-fits : (b : Bool) (z : ℤ) → SFits w32 z → SFits w32 (unwrap_or (then_some b z) (pos 0))
 held-fits true z h = h
@@ -160,7 +161,7 @@ module _ (f : Setting) (g : SettingFits f) where
         let d = f.lpc_order in
         let gain = get_or (control_at f b.control k).gains_q16 k (pos 0) in
         let a = smulww (gain_adjustment b.gain gain) in
-        let m : Words w32 16 (map a b.memory) = words (length-map a b.memory ∙ h.memory.count) (map-fits a b.memory (smulww-fits _)) in
+        let m : Words w32 16 (map a b.memory) = words (length-map b.memory a ∙ h.memory.count) (map-fits a b.memory (smulww-fits _)) in
         record {
           memory = words (memory_length (map a b.memory) _ _ d n ∙ m.count) (drop-fits n _ (synthesis-fits (map a b.memory) _ _ d n m.fits));
           buffer = either (long f k && rewhitens f k) (buffer-kept k b.buffer b.samples h.buffer h.samples) h.buffer;
@@ -185,7 +186,7 @@ module _ (f : Setting) (g : SettingFits f) where
     last_gain b h k = ap (λ (x : List ℤ). get_or x k (pos 0)) (subframes-fit b h (suc k)).gains
 
 -- ---- the stage
-module _ (p : Shape) (n : Shaped p.rate p.subframes) (s : SilkDecoderState) (t : Typed s) (q : Params) (c : SilkDecoderControl) (tc : TypedControl c) (rows : List (List ℤ)) (pulses : List ℤ) (tp : Fit w16 pulses) where
+module _ (p : Shape) (n : Shaped p.rate p.subframes) (s : SilkDecoderState) (t : Typed s) (q : Params) (c : SilkDecoderControl) (tc : TypedControl c) (rows : List (List ℤ)) (pulses : List ℤ) (tp : AllFit w16 pulses) where
   setting-fits : SettingFits (setting_of p s q)
   unfolding setting_of transition
   setting-fits =

@@ -8,7 +8,7 @@ use lib.ListN.{length, get_or, take, drop}
 use lib.Seq.{take_at, drop_at, length-take-le}
 use Rattle.macros.specs.Fixed.{smulww}
 use Rattle.sigproc.specs.Synthesis.{synthesis, played}
-use Rattle.sigproc.proofs.Fill.{length-map}
+use Rattle.std.proofs.lemmas.List.{length-map}
 use Rattle.decoder.specs.declared.SilkDecoderControl.{SilkDecoderControl}
 use Rattle.decode_core.specs.Core.{gain_adjustment, held_lag, smooth, smoothed, control_at, subframe}
 use Rattle.decode_core.specs.Ready.{LongTerm, held}
@@ -39,7 +39,7 @@ module _ (f : Setting) (rows : List (List ℤ)) (exc : List ℤ) (k : ℕ) (b b'
   unfolding subframe
   one_more =
       let m = map (smulww adj) (take 16 signal) in
-      let lm : length m ≡ 16 = length-map (smulww adj) (take 16 signal) ∙ length-take-le 16 signal hs in
+      let lm : length m ≡ 16 = length-map (take 16 signal) (smulww adj) ∙ length-take-le 16 signal hs in
       let e = take f.subfr_length (drop (f.subfr_length * k) exc) in
       let tl : take 16 loaded ≡ m = ap (take 16) hl ∙ take_at m e 16 lm in
       let dl : drop 16 loaded ≡ e = ap (drop 16) hl ∙ drop_at m e 16 lm in

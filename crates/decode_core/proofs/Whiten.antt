@@ -2,7 +2,7 @@
 use Prim.Native.Nat.{ℕ, zero, suc, ◌+◌, ◌-◌, ◌<◌, ◌≤◌}
 use mathlib.Core.Bool.{Bool, true, false, cond}
 use mathlib.Core.Path.{◌≡◌, refl, sym, ap, ◌∙◌}
-use mathlib.Core.List.{List, [], ◌∷◌, ◌++◌, map, map-append, append_assoc, append-nil}
+use mathlib.Core.List.{List, ◌++◌, map, append_assoc, append-nil}
 use native.Mathlib.Omega.{arith}
 use borrow.Author.Tests.{le-ltb}
 use borrow.Rule.Slice.PartMut.{put_mid}
@@ -12,11 +12,12 @@ use lib.Seq.{get_or-take, get_or-drop, get_or-append-add, drop-drop, take_at, dr
 use mir.Syntax.{w32}
 use mir.Val.{SFits}
 use Rattle.word.specs.Tabulate.{tabulate}
-use Rattle.word.proofs.Lists.{length-tabulate, get_or-tabulate}
+use Rattle.word.proofs.Lists.{length-tabulate, get_or-tabulate, map-tabulate}
+use Rattle.word.proofs.Fits.{AllFit, append-fits, one-fits, take-fits, drop-fits, tabulate-fits}
 use Rattle.macros.specs.Fixed.{smulww, smulwb}
 use Rattle.sigproc.specs.Analysis.{products, residual, analysis}
-use Rattle.sigproc.proofs.Fill.{length-map, get_or-map}
-use Rattle.sigproc.proofs.Ranges.{length-analysis, append-fits, one-fits, take-fits, drop-fits, tabulate-fits}
+use Rattle.std.proofs.lemmas.List.{length-map, get_or-map}
+use Rattle.sigproc.proofs.Ranges.{length-analysis}
 use Rattle.word.proofs.Words.{wrap-fits}
 use Rattle.decoder.specs.declared.SilkDecoderControl.{SilkDecoderControl}
 use Rattle.decode_core.specs.declared.Setting.{Setting}
@@ -80,11 +81,6 @@ residual-part : (x a : List ℤ) (d s n i : ℕ) → d ≤ i → i < n → resid
 unfolding residual
 residual-part x a d s n i h k = rw (part_at x s n i k, products-part x a s n i d h (omega arith))
 
-map-tabulate : (g : ℤ → ℤ) (n : ℕ) (f : ℕ → ℤ) → map g (tabulate n f) ≡ tabulate n (λ t. g (f t))
-unfolding tabulate
-map-tabulate g zero f = refl
-map-tabulate g (suc n) f = map-append g (tabulate n f) (f n ∷ []) ∙ ap (λ (r : List ℤ). r ++ g (f n) ∷ []) (map-tabulate g n f)
-
 -- what the analysis filter leaves behind its first d places
 whitened : (z x a : List ℤ) (d m start from idx : ℕ) → start + d ≡ from → from + m ≡ idx → idx ≤ length z → idx ≤ length x
     → take (idx - from) (drop from (put_mid start (idx - start) z (analysis (take (idx - start) (drop start x)) a d))) ≡ tabulate m (λ t. residual x a d (from + t))
@@ -120,7 +116,7 @@ pub rewhitened : (past z x a : List ℤ) (d m start from idx : ℕ) (inverse : �
     ≡ refilled (take idx past) m (λ i. smulwb inverse (residual x a d i)) ++ drop idx past
 rewhitened past z x a d m start from idx inverse e f hz hx hp =
     refill-part past m from idx (λ i. smulwb inverse (residual x a d i)) _ f hp
-    (ap (map (smulwb inverse)) (whitened z x a d m start from idx e f hz hx) ∙ map-tabulate (smulwb inverse) m (λ t. residual x a d (from + t)))
+    (ap (map (smulwb inverse)) (whitened z x a d m start from idx e f hz hx) ∙ map-tabulate (smulwb inverse) (λ t. residual x a d (from + t)) m)
 
 pub adjusted : (past : List ℤ) (m from idx : ℕ) (adj : ℤ) → from + m ≡ idx → idx ≤ length past
     → put_mid from (idx - from) past (map (smulww adj) (take (idx - from) (drop from past)))
@@ -128,17 +124,17 @@ pub adjusted : (past : List ℤ) (m from idx : ℕ) (adj : ℤ) → from + m ≡
 adjusted past m from idx adj f hp =
     let xs = take (idx - from) (drop from past) in
     let g : ℕ → ℤ = λ i. smulww adj (get_or (take idx past) i (pos 0)) in
-    let l : length (map (smulww adj) xs) ≡ m = length-map (smulww adj) xs ∙ (simp (length-take, length-drop) (omega arith)) in
+    let l : length (map (smulww adj) xs) ≡ m = length-map xs (smulww adj) ∙ (simp (length-take, length-drop) (omega arith)) in
     refill-part past m from idx g _ f hp
     (ext_get_or (pos 0) (map (smulww adj) xs) (tabulate m (λ t. g (from + t))) (l ∙ sym (length-tabulate m (λ t. g (from + t))))
     (λ t ht.
     let k : t < m = rw l at ht in
-    get_or-map (smulww adj) xs t (rw (length-map (smulww adj) xs) at ht)
+    get_or-map (smulww adj) xs t (pos 0) (pos 0) (rw (length-map xs (smulww adj)) at ht)
     ∙ ap (smulww adj) (part_at past from (idx - from) t (omega arith) ∙ sym (get_or-take idx past (from + t) (pos 0) (omega arith)))
     ∙ sym (get_or-tabulate m (λ t. g (from + t)) t k)))
 
 -- by one it stays as it was
-pub unadjusted-part : (past : List ℤ) (m from idx : ℕ) → ((i : ℕ) → SFits w32 (get_or past i (pos 0))) → from + m ≡ idx → idx ≤ length past
+pub unadjusted-part : (past : List ℤ) (m from idx : ℕ) → AllFit w32 past → from + m ≡ idx → idx ≤ length past
     → past ≡ refilled (take idx past) m (λ i. smulww (pos 65536) (get_or (take idx past) i (pos 0))) ++ drop idx past
 unadjusted-part past m from idx h f hp =
     let xs = take (idx - from) (drop from past) in
@@ -153,10 +149,10 @@ length-refilled past m f h =
     let g : ℕ → ℤ = λ t. f (length past - m + t) in
     length-append (take (length past - m) past) (tabulate m g) ∙ omega (arith, length-take-le (length past - m) past (omega arith), length-tabulate m g)
 
-refilled-fits : (past : List ℤ) (m : ℕ) (f : ℕ → ℤ) → ((i : ℕ) → SFits w32 (get_or past i (pos 0))) → ((i : ℕ) → SFits w32 (f i)) → (i : ℕ) → SFits w32 (get_or (refilled past m f) i (pos 0))
+refilled-fits : (past : List ℤ) (m : ℕ) (f : ℕ → ℤ) → AllFit w32 past → ((i : ℕ) → SFits w32 (f i)) → AllFit w32 (refilled past m f)
 unfolding refilled
 refilled-fits past m f h k =
-    append-fits (take (length past - m) past) (tabulate m (λ t. f (length past - m + t))) (take-fits (length past - m) past h) (tabulate-fits m (λ t. f (length past - m + t)) (λ i. k (length past - m + i)))
+    append-fits (take (length past - m) past) (tabulate m (λ t. f (length past - m + t))) (take-fits (length past - m) past h) (tabulate-fits m (λ t. f (length past - m + t)) (λ i l. k (length past - m + i)))
 
 -- the places in use of a long-term state
 pub in_view : {past : List ℤ} (q : List ℤ) (idx : ℕ) → take idx q ≡ past → Words w32 640 q → idx ≤ 640 → length past ≡ idx
@@ -191,7 +187,7 @@ module _ (f : Setting) (c : SilkDecoderControl) (k : ℕ) (row : List ℤ) (adj 
       go true = length-refilled past m (λ i. smulwb (inverse_gain_q31 c k) (residual buffer row f.lpc_order i)) h
       go false = length-refilled past m (λ i. smulww adj (get_or past i (pos 0))) h
 
-pub ltp_past-fits : (past taps : List ℤ) (lag : ℕ) (e : List ℤ) (n : ℕ) → ((i : ℕ) → SFits w32 (get_or past i (pos 0))) → (i : ℕ) → SFits w32 (get_or (ltp_past past taps lag e n) i (pos 0))
+pub ltp_past-fits : (past taps : List ℤ) (lag : ℕ) (e : List ℤ) (n : ℕ) → AllFit w32 past → AllFit w32 (ltp_past past taps lag e n)
 unfolding ltp_past
 ltp_past-fits past taps lag e zero h = h
 ltp_past-fits past taps lag e (suc n) h =

@@ -25,9 +25,9 @@ use excitation::{excite, offset_q14};
 use macros::{silk_add_lshift32, silk_div32_varq, silk_inverse32_varq, silk_smulwb, silk_smulww};
 use refusal::Refusal;
 use shape::{Order, Rate, count_of};
-use sigproc::{copy_at, ltp_prediction, scale_out, silk_lpc_analysis_filter, synthesis};
+use sigproc::{copy_at, ltp_prediction, scale_out, silk_lpc_analysis_filter, synthesis, weigh};
 use std::marker::Model;
-use word::{shl32, wide8, wide16};
+use word::{shl32, wide8};
 
 // What the subframes of a frame share. A transition, a frame that is not voiced after the loss of a voiced one, has that one's lag.
 // voiced and interpolated are two facts of their own, each read as a condition alone.
@@ -47,14 +47,6 @@ pub struct Setting {
 pub struct Carried {
     pub control: SilkDecoderControl,
     pub gain: i32,
-}
-
-// What a frame changes beside the excitation: the description, and a state's fields.
-#[derive(Clone, Copy)]
-pub struct Parts {
-    pub carried: Carried,
-    pub s_lpc_q14_buf: [i32; 16],
-    pub out_buf: [i16; 480],
 }
 
 // What the subframes are made from; the setting has the order as a number, which is 0 for a number that is no rate.
@@ -112,23 +104,13 @@ fn adjust(xs: &mut [i32], adj: i32)
     }
 }
 
-// A residual by the inverse of a gain.
-fn weigh(past: &mut [i32], residual: &[i16], inverse: i32)
-    requires { length past.old ≡ length residual.now }
-    ensures { past.new ≡ map (smulwb inverse) residual.now }
-{
-    // Not a zip: after one over `iter_mut` only the length of past is known.
-    for (i, r) in residual.iter().enumerate() {
-        past[i] = silk_smulwb(inverse, wide16(*r));
-    }
-}
-
 // The residual from the excitation in res, and the long-term state behind its first idx places.
 fn ltp_synthesis(past: &mut [i32], idx: usize, taps: [i16; 5], lag: usize, res: &mut [i32])
     requires { (3 ≤ lag) × (lag + 2 ≤ idx) × (idx + length res.old ≤ length past.old) }
     ensures { (past.new ≡ ltp_past (take idx past.old) taps lag res.old (length res.old) ++ drop (idx + length res.old) past.old)
         × (res.new ≡ ltp_synthesis (take idx past.old) taps lag res.old (length res.old)) }
 {
+    // By place, since each turn reads what the turns before wrote.
     for (i, r) in res.iter_mut().enumerate() {
         let p = ltp_prediction(past, &taps, idx + i - lag + 2);
         let v = silk_add_lshift32(*r, p, 1);
@@ -424,8 +406,8 @@ fn interpolates(nlsf_interp_coef_q2: i8) -> bool
     }
 }
 
-pub fn setting_of(s: SilkDecoderState, q: Params) -> Setting
-    ensures { result ≡ setting_of (shape_of s) s q }
+pub fn setting_of(s: &SilkDecoderState, q: Params) -> Setting
+    ensures { result ≡ setting_of (shape_of s.now) s.now q }
 {
     let khz = s.fs_khz;
     let signal = q.signal;
@@ -447,70 +429,41 @@ pub fn setting_of(s: SilkDecoderState, q: Params) -> Setting
     }
 }
 
-// A received frame that no row refuses. Its seven parameters: document 01 has rows and pulses beside the frame, and a caller lends its excitation.
-pub fn decode_core(
-    f: Setting,
-    q: Params,
-    rows: [[i16; 16]; 2],
-    pulses: &[i16],
-    exc: &mut [i32],
-    p: &mut Parts,
-    xq: &mut [i16],
-)
-    requires { Framed f p.old.carried.control f.nb_subfr × (f.subfr_length * f.nb_subfr ≤ length pulses.now) × (f.subfr_length * f.nb_subfr ≤ length exc.old) × (f.subfr_length * f.nb_subfr ≤ length xq.old) }
-    ensures { (exc.new ≡ excitation (offset_q14 f.voiced q.quant_offset_type) pulses.now q.seed (f.subfr_length * f.nb_subfr) ++ drop (f.subfr_length * f.nb_subfr) exc.old)
-        × Left (subframes f rows (excitation (offset_q14 f.voiced q.quant_offset_type) pulses.now q.seed (f.subfr_length * f.nb_subfr)) (begin f p.old.carried p.old.s_lpc_q14_buf p.old.out_buf) f.nb_subfr) p.new.carried p.new.s_lpc_q14_buf p.new.out_buf xq.new (drop (f.subfr_length * f.nb_subfr) xq.old) }
+// The excitation of a frame in front of what is held.
+fn excited(exc: &mut [i32; 320], f: Setting, q: Params, pulses: &[i16])
+    requires { (f.subfr_length * f.nb_subfr ≤ 320) × (f.subfr_length * f.nb_subfr ≤ length pulses.now) }
+    ensures { exc.new ≡ excitation (offset_q14 f.voiced q.quant_offset_type) pulses.now q.seed (f.subfr_length * f.nb_subfr) ++ drop (f.subfr_length * f.nb_subfr) exc.old }
 {
     let n = f.subfr_length * f.nb_subfr;
     let offset = offset_q14(f.voiced, q.quant_offset_type);
     excite(&mut exc[..n], pulses, offset, wide8(q.seed));
+}
+
+// A received frame that no row refuses, on a state and a description that are lent: its buffers are played where they lie.
+pub fn decode_core(a: &mut Answer, q: Params, rows: [[i16; 16]; 2], pulses: &[i16], xq: &mut [i16])
+    requires { Framed (setting_of (shape_of a.old.state) a.old.state q) a.old.control (count_of a.old.state.nb_subfr) × (frame_length (shape_of a.old.state) ≤ length pulses.now) × (frame_length (shape_of a.old.state) ≤ length xq.old) }
+    ensures { (a.new.state ≡ (decode_core (shape_of a.old.state) a.old.state q a.old.control rows pulses.now).state) × (a.new.control ≡ (decode_core (shape_of a.old.state) a.old.state q a.old.control rows pulses.now).control)
+        × (xq.new ≡ (decode_core (shape_of a.old.state) a.old.state q a.old.control rows pulses.now).samples ++ drop (frame_length (shape_of a.old.state)) xq.old) }
+{
+    let f = setting_of(&a.state, q);
+    let n = f.subfr_length * f.nb_subfr;
+    excited(&mut a.state.exc_q14, f, q, pulses);
     let source = Source {
         setting: f,
         order: Order::from_size(f.lpc_order),
         rows,
-        exc: &exc[..n],
+        exc: &a.state.exc_q14[..n],
     };
-    p.carried = source.synthesise(p.carried, &mut p.s_lpc_q14_buf, &mut p.out_buf, xq);
+    let b = Carried {
+        control: a.control,
+        gain: a.state.prev_gain_q16,
+    };
+    let t = source.synthesise(b, &mut a.state.s_lpc_q14_buf, &mut a.state.out_buf, xq);
+    a.control = t.control;
+    a.state.prev_gain_q16 = t.gain;
 }
 
-// The state and the description after a frame.
-fn decoded(
-    s: SilkDecoderState,
-    q: Params,
-    c: SilkDecoderControl,
-    rows: [[i16; 16]; 2],
-    pulses: &[i16],
-    xq: &mut [i16],
-) -> Answer
-    requires { Framed (setting_of (shape_of s) s q) c (count_of s.nb_subfr) × (frame_length (shape_of s) ≤ length pulses.now) × (frame_length (shape_of s) ≤ length xq.old) }
-    ensures { (result.state ≡ (decode_core (shape_of s) s q c rows pulses.now).state) × (result.control ≡ (decode_core (shape_of s) s q c rows pulses.now).control)
-        × (xq.new ≡ (decode_core (shape_of s) s q c rows pulses.now).samples ++ drop (frame_length (shape_of s)) xq.old) }
-{
-    let f = setting_of(s, q);
-    let carried = Carried {
-        control: c,
-        gain: s.prev_gain_q16,
-    };
-    let mut exc = s.exc_q14;
-    let s_lpc_q14_buf = s.s_lpc_q14_buf;
-    let out_buf = s.out_buf;
-    let mut p = Parts {
-        carried,
-        s_lpc_q14_buf,
-        out_buf,
-    };
-    decode_core(f, q, rows, pulses, &mut exc, &mut p, xq);
-    let control = p.carried.control;
-    let s_lpc_q14_buf = p.s_lpc_q14_buf;
-    let out_buf = p.out_buf;
-    let mut t = s;
-    t.prev_gain_q16 = p.carried.gain;
-    t.exc_q14 = exc;
-    t.s_lpc_q14_buf = s_lpc_q14_buf;
-    t.out_buf = out_buf;
-    Answer { state: t, control }
-}
-
+// By document 01 coefficient rows and pulses stand beside a frame's numbers and its description.
 pub fn silk_decode_core(
     s: SilkDecoderState,
     q: Params,
@@ -522,10 +475,15 @@ pub fn silk_decode_core(
     ensures { (result ≡ core_answer s q c rows pulses.now xq.old) × (xq.new ≡ core_output s q c rows pulses.now xq.old) }
 {
     judge::core(&s, q, &c, pulses.len(), xq.len())?;
-    Ok(decoded(s, q, c, rows, pulses, xq))
+    let mut a = Answer {
+        state: s,
+        control: c,
+    };
+    decode_core(&mut a, q, rows, pulses, xq);
+    Ok(a)
 }
 
-// The excitation that core leaves in the state is 64 times RFC 6716's. The claim has no code: it is a contract.
+// The excitation that core leaves in the state is 64 times RFC 6716's.
 pub fn core_excitation()
     ensures { CoreStandard }
 {}

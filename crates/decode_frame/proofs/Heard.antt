@@ -1,4 +1,4 @@
--- A received frame after its core, and a lost one after its concealment, by the parts of the state.
+-- A received frame after its history, and a lost one after its concealment, by the parts of the state.
 use Prim.Native.Nat.{◌-◌}
 use mathlib.Core.Path.{◌≡◌, refl, sym, ap, ◌∙◌}
 use mathlib.Core.Bool.{false, cond}
@@ -7,9 +7,8 @@ use lib.IntN.{ℤ, pos}
 use lib.ListN.{get_or}
 use Rattle.word.specs.Int.{eq_ℤ}
 use Rattle.sigproc.specs.Energy.{energy_at, energy_shift}
-use Rattle.sigproc.specs.Place.{update_out_buf}
-use Rattle.shape.specs.Shape.{Shape, frame_length, mem_length, lpc_order}
-use Rattle.decoder.specs.With.{with_out_buf, with_lag, with_first, with_noise, with_losses, with_type, with_plc}
+use Rattle.shape.specs.Shape.{Shape, frame_length, lpc_order}
+use Rattle.decoder.specs.With.{with_lag, with_first, with_noise, with_losses, with_type, with_plc}
 use Rattle.decoder.specs.Outcome.{Outcome}
 use Rattle.decoder.specs.Signals.{signal_number}
 use Rattle.decoder.specs.declared.SilkCNGState.{SilkCNGState}
@@ -21,7 +20,7 @@ use Rattle.plc.specs.Update.{updated_by, plc_update}
 use Rattle.cng.specs.Noise.{cng_ready, heard_noise, sounding, sounded, comfort_noise}
 use Rattle.cng.proofs.Cases.{lost-is}
 use Rattle.glue.specs.Glue.{hold_energy, joined, glue_frames}
-use Rattle.decode_frame.specs.WholeFrame.{remembered, resumed, lag_kept, finished}
+use Rattle.decode_frame.specs.WholeFrame.{resumed, lag_kept, finished}
 use Rattle.decode_frame.proofs.Noised.{glued}
 
 module _ (p : Shape) (t : SilkDecoderState) (c : SilkDecoderControl) (x : List ℤ) (signal : Signal) (rows : List (List ℤ)) where
@@ -37,7 +36,7 @@ module _ (p : Shape) (t : SilkDecoderState) (c : SilkDecoderControl) (x : List �
             (with_losses
             (with_noise
             (with_first
-            (with_lag (with_out_buf t (update_out_buf t.out_buf (mem_length p) x)) (get_or c.pitch_l (p.subframes - 1) (pos 0)))
+            (with_lag t (get_or c.pitch_l (p.subframes - 1) (pos 0)))
             (pos 0))
             (heard_noise p t.exc_q14 t.prev_nlsf_q15 c.gains_q16 (signal_number signal) t.s_cng))
             (pos 0))
@@ -47,8 +46,8 @@ module _ (p : Shape) (t : SilkDecoderState) (c : SilkDecoderControl) (x : List �
         samples = cond (eq_ℤ updated.last_frame_lost (pos 0)) x (joined updated.conc_energy updated.conc_energy_shift x);
       }
 
-  pub heard-is : heard ≡ finished p (record { state = resumed (plc_update p (remembered p t x) signal c rows) (signal_number signal); control = c; samples = x })
-  unfolding finished resumed plc_update remembered comfort_noise glue_frames lag_kept
+  pub heard-is : heard ≡ finished p (record { state = resumed (plc_update p t signal c rows) (signal_number signal); control = c; samples = x })
+  unfolding finished resumed plc_update comfort_noise glue_frames lag_kept
   heard-is = refl
 
 module _ (p : Shape) (s : SilkDecoderState) (c : SilkDecoderControl) (x : List ℤ) where

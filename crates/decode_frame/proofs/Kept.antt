@@ -12,7 +12,7 @@ use mir.Syntax.{w16, w32}
 use mir.Val.{SFits}
 use Rattle.word.specs.Int.{eq_ℤ}
 use Rattle.word.proofs.Order.{eq_ℤ_true}
-use Rattle.sigproc.proofs.Ranges.{Fit}
+use Rattle.word.proofs.Fits.{AllFit}
 use Rattle.shape.specs.Shape.{Shape, frame_length, lpc_order, is_rate, rate_of}
 use Rattle.shape.proofs.Shapes.{Shaped}
 use Rattle.decoder.specs.Signals.{signal_number, is_voiced}
@@ -81,7 +81,7 @@ module _ (p : Shape) (q : Shaped p.rate p.subframes) (s : SilkDecoderState) (sha
     lost-fine = finished-fine p q _ lost-before
 
   -- ---- a received frame
-  module _ (f : Params) (c : SilkDecoderControl) (tc : TypedControl c) (rows : List (List ℤ)) (tr : TypedRows rows) (lines : List ℤ) (tl : Words w16 16 lines) (pulses : List ℤ) (tp : Fit w16 pulses)
+  module _ (f : Params) (c : SilkDecoderControl) (tc : TypedControl c) (rows : List (List ℤ)) (tr : TypedRows rows) (lines : List ℤ) (tl : Words w16 16 lines) (pulses : List ℤ) (tp : AllFit w16 pulses)
       (fit : ParamsFit p f c) (lf : AllBetween 0 32767 lines (lpc_order p)) where
     abbrev start : SilkDecoderState
     start = lined p s lines
@@ -225,7 +225,7 @@ pub lost-good : (s : SilkDecoderState) (c : SilkDecoderControl) → Good s → T
 lost-good s c g tc free =
     good s _ g (lost-sizes (shape_of s) s c) (lost-fine (shape_of s) (shaped s g) s refl (fine s g) c tc free)
 
-pub received-good : (s : SilkDecoderState) (f : Params) (c : SilkDecoderControl) (rows : List (List ℤ)) (lines pulses : List ℤ) → Good s → TypedControl c → TypedRows rows → TypedLines lines → Fit w16 pulses → ParamsFit (shape_of s) f c → lines_fit (shape_of s).rate lines ≡ true → Good (received (shape_of s) s f c rows lines pulses).state
+pub received-good : (s : SilkDecoderState) (f : Params) (c : SilkDecoderControl) (rows : List (List ℤ)) (lines pulses : List ℤ) → Good s → TypedControl c → TypedRows rows → TypedLines lines → AllFit w16 pulses → ParamsFit (shape_of s) f c → lines_fit (shape_of s).rate lines ≡ true → Good (received (shape_of s) s f c rows lines pulses).state
 received-good s f c rows lines pulses g tc tr tl tp fit lf =
     good s _ g (received-sizes (shape_of s) s f c rows lines pulses)
     (received-fine (shape_of s) (shaped s g) s refl (fine s g) f c tc rows tr lines tl pulses tp fit (all_between 0 32767 lines (lpc_order (shape_of s)) lf))

@@ -28,7 +28,6 @@ use Rattle.plc.proofs.Ready.{ready_rate}
 use Rattle.glue.specs.Glue.{glue_frames}
 use Rattle.glue.proofs.Glued.{glued}
 use Rattle.decoder.specs.With.{with_noise}
-use Rattle.cng.specs.Noise.{}
 use Rattle.cng.proofs.Kept.{comfort_rate}
 use Rattle.decode_core.specs.Core.{decode_core}
 use Rattle.decode_frame.specs.WholeFrame.{lined, remembered, resumed, lag_kept, finished, received, lost}

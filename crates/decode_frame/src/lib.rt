@@ -1,5 +1,7 @@
 // The whole frame (decode_frame.rs).
 // Inner: play_received and play_lost.
+// The calls' lists are long since by document 01 coefficient rows, lines and pulses stand beside a frame and its description.
+// Four functions ask for a frame's length: a struct of a shape and the lent samples would be lent on by `&mut`, and each would take it apart again.
 #![tactic(auto)]
 
 ghost use Rattle.std.specs.Prelude.{Ok, ◌≡◌, true, false, cond, [], ◌≤◌, pos, nat_abs, length, replicate};
@@ -18,11 +20,10 @@ ghost use Rattle.decode_frame.specs.Call.{frame_call};
 ghost use Rattle.decode_frame.specs.Answer.{frame_refusal, frame_answer, frame_output};
 ghost use Rattle.decode_frame.specs.Standard.{FrameStandard};
 
-use decode_core::{Carried, Parts, decode_core, setting_of};
+use decode_core::decode_core;
 use decoder::{Answer, Frame, Params, SilkDecoderControl, SilkDecoderState, reshape, squelched};
 use glue::{leave_energy, receive};
 use plc::conceal::plc_conceal;
-use plc::update::type_number;
 use refusal::Refusal;
 use shape::{FrameShape, Rate};
 use sigproc::{update_out_buf, with_front};
@@ -72,7 +73,7 @@ fn lost(a: &mut Answer, xq: &mut [i16])
         ≡ muted (shape_of a.old.state) (squelched a.old.state) (lost (shape_of a.old.state) a.old.state a.old.control) }
 {
     let quiet = squelched(&a.state);
-    *a = plc_conceal(a.state, a.control, xq);
+    plc_conceal(a, xq);
     remembered(a, xq);
     finished(a, xq);
     mute(quiet, xq);
@@ -90,59 +91,40 @@ fn received(
         × (frame_length (shape_of a.old.state) ≤ length pulses.now) × (length xq.old ≡ frame_length (shape_of a.old.state)) }
     ensures { record { state = a.new.state; control = a.new.control; samples = xq.new } ≡ received (shape_of a.old.state) a.old.state q a.old.control rows lines pulses.now }
 {
-    let s = a.state;
-    let khz = s.fs_khz;
-    let nb = s.nb_subfr;
-    let signal = q.signal;
-    let count = shape::count_of(nb);
-    let f = setting_of(s, q);
-    let carried = Carried {
-        control: a.control,
-        gain: s.prev_gain_q16,
-    };
-    let mut exc = s.exc_q14;
-    let s_lpc_q14_buf = s.s_lpc_q14_buf;
-    let out_buf = s.out_buf;
-    let mut p = Parts {
-        carried,
-        s_lpc_q14_buf,
-        out_buf,
-    };
-    decode_core(f, q, rows, pulses, &mut exc, &mut p, xq);
-    let control = p.carried.control;
-    let gain = p.carried.gain;
-    let memory = p.s_lpc_q14_buf;
-    let played = p.out_buf;
-    let gains = control.gains_q16;
-    let lags = control.pitch_l;
-    let before = s.prev_nlsf_q15;
-    let nlsf = with_front(before, lines, f.lpc_order);
-    let history = update_out_buf(played, f.ltp_mem_length, xq);
-    let held = s.s_plc;
-    let updated = plc::update::received(held, khz, nb, signal, control, rows);
-    let kind = type_number(signal);
-    let mut s_cng = s.s_cng;
     let shape = FrameShape {
-        fs_khz: khz,
-        nb_subfr: nb,
+        fs_khz: a.state.fs_khz,
+        nb_subfr: a.state.nb_subfr,
     };
-    cng::received(&mut s_cng, &exc, nlsf, &gains, shape, kind);
-    let s_plc = receive(updated, xq);
-    a.control = control;
-    a.state.prev_gain_q16 = gain;
-    a.state.exc_q14 = exc;
-    a.state.s_lpc_q14_buf = memory;
-    a.state.out_buf = history;
-    a.state.lag_prev = lags[count - 1];
-    a.state.prev_nlsf_q15 = nlsf;
+    let count = shape::count_of(shape.nb_subfr);
+    let kind = i32::from(q.signal);
+    let order = Rate::lpc_order(a.state.fs_khz);
+    a.state.prev_nlsf_q15 = with_front(a.state.prev_nlsf_q15, lines, order);
+    decode_core(a, q, rows, pulses, xq);
+    remembered(a, xq);
+    let updated = plc::update::received(
+        a.state.s_plc,
+        shape.fs_khz,
+        shape.nb_subfr,
+        q.signal,
+        a.control,
+        rows,
+    );
+    cng::received(
+        &mut a.state.s_cng,
+        &a.state.exc_q14,
+        a.state.prev_nlsf_q15,
+        &a.control.gains_q16,
+        shape,
+        kind,
+    );
+    a.state.s_plc = receive(updated, xq);
+    a.state.lag_prev = a.control.pitch_l[count - 1];
     a.state.first_frame_after_reset = 0;
-    a.state.s_cng = s_cng;
     a.state.loss_cnt = 0;
     a.state.prev_signal_type = kind;
-    a.state.s_plc = s_plc;
 }
 
-// A received frame of a coming shape that no row refuses, on a state and a description that are lent: by value they would be copied.
+// A received frame of a coming shape that no row refuses, its parts as document 01 names them; by value the state would be copied.
 pub fn play_received(
     a: &mut Answer,
     khz: i32,
@@ -173,7 +155,7 @@ pub fn play_lost(a: &mut Answer, khz: i32, nb_subfr: i32, xq: &mut [i16])
     lost(a, &mut xq[..n]);
 }
 
-// A received frame of a coming shape: refused, it changes nothing.
+// A received frame of a coming shape, its parts as document 01 names them: refused, it changes nothing.
 pub fn received_frame(
     s: SilkDecoderState,
     khz: i32,
@@ -216,6 +198,7 @@ pub fn lost_frame(
     Ok(a)
 }
 
+// A whole frame, its parts as document 01 names them.
 pub fn silk_decode_frame(
     s: SilkDecoderState,
     khz: i32,
@@ -236,7 +219,7 @@ pub fn silk_decode_frame(
     received_frame(s, khz, nb_subfr, q, c, rows, lines, pulses, xq)
 }
 
-// The excitation that a received frame leaves in the state is 64 times RFC 6716's. The claim has no code: it is a contract.
+// The excitation that a received frame leaves in the state is 64 times RFC 6716's.
 pub fn frame_excitation()
     ensures { FrameStandard }
 {}

@@ -12,6 +12,7 @@ use mir.Syntax.{w16, w32}
 use mir.Val.{SFits}
 use Rattle.word.specs.Int.{eq_ℤ}
 use Rattle.word.proofs.Order.{eq_ℤ_true, eq_ℤ_refl}
+use Rattle.word.proofs.Sizes.{abs-fits}
 use Rattle.refusal.specs.First.{◌gives◌, first_of}
 use Rattle.refusal.specs.declared.Refusal.TheVariants.{Rate, Size, History}
 use Rattle.refusal.proofs.Clear.{Clear}
@@ -33,7 +34,7 @@ use Rattle.decoder.proofs.Between.{either, passes, AllBetween}
 use Rattle.decoder.proofs.Bounds.{size-bounds, size_fits, DecoderBounds, PlcHeldBounds, PlcBounds, CngHeldBounds, CngBounds, bounds, history-fits}
 use Rattle.decoder.proofs.Built.{in_range, typed_out_buf, typed_memory, typed_lag, typed_type, typed_first}
 use Rattle.decoder.proofs.Types.{zeros-words}
-use Rattle.decoder.proofs.SetUps.{zeros-between, no_rate_0, small-fits, typed_shape}
+use Rattle.decoder.proofs.SetUps.{zeros-between, no_rate_0, typed_shape}
 
 -- ---- the shape that a state holds
 pub same_shape : SameShape
@@ -87,9 +88,9 @@ module _ (khz nb : ℤ) (s : SilkDecoderState) where
       let b = eq_ℤ khz s.fs_khz in
       let o = typed_out_buf (typed_shape khz nb e f t) (either (Words w16 480) b t.out_buf (zeros-words 480)) in
       let m = typed_memory o (either (Words w32 16) b t.s_lpc_q14_buf (zeros-words 16)) in
-      let l = typed_lag m (either (SFits w32) b t.lag_prev (small-fits 100 (lit< tt))) in
-      let k = typed_type l (either (SFits w32) b t.prev_signal_type (small-fits 0 (lit< tt))) in
-      typed_first k (either (SFits w32) b t.first_frame_after_reset (small-fits 1 (lit< tt)))
+      let l = typed_lag m (either (SFits w32) b t.lag_prev (abs-fits (pos 100) (lit< tt))) in
+      let k = typed_type l (either (SFits w32) b t.prev_signal_type (abs-fits (pos 0) (lit< tt))) in
+      typed_first k (either (SFits w32) b t.first_frame_after_reset (abs-fits (pos 1) (lit< tt)))
 
 -- ---- a state that every coming shape leaves accepted
 -- concealment or noise holds its numbers for no rate, or for that of the state

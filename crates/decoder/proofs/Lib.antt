@@ -1,4 +1,5 @@
 -- Laws that other proofs cite.
+pub mod Each
 pub mod Tests
 pub mod Ends
 pub mod Held

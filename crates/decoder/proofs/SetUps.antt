@@ -1,5 +1,5 @@
 -- Set-up at a rate and a count: nothing is refused, and the state is accepted and typed.
-use Prim.Native.Nat.{ℕ, zero, suc, ◌<◌, zero-le}
+use Prim.Native.Nat.{ℕ, zero, suc, zero-le}
 use mathlib.Core.Path.{◌≡◌, refl, ap}
 use mathlib.Core.Bool.{true, not, ◌&&◌}
 use native.Mathlib.Omega.{arith}
@@ -10,6 +10,8 @@ use lib.ListN.{get_or, replicate}
 use mir.Syntax.{w16, w32}
 use mir.Val.{SFits}
 use Rattle.word.proofs.Rows.{both}
+use Rattle.word.proofs.Fits.{zero_fits}
+use Rattle.word.proofs.Sizes.{abs-fits}
 use Rattle.edition.specs.Edition.{is_edition}
 use Rattle.edition.proofs.Editions.{edition_fits}
 use Rattle.std.specs.Prelude.{Ok}
@@ -28,8 +30,8 @@ use Rattle.decoder.specs.declared.SilkDecoderState.{SilkDecoderState}
 use Rattle.decoder.proofs.Between.{between, passes, AllBetween}
 use Rattle.decoder.proofs.Bounds.{size_fits, history-fits}
 use Rattle.decoder.proofs.Built.{in_range, between_32, typed_settings, typed_sizes}
-use Rattle.decoder.proofs.Tests.{small, small_rate, small-frame, small_order}
-use Rattle.decoder.proofs.Types.{zero_fits, zeros-words}
+use Rattle.decoder.proofs.Tests.{small, small_rate, small_frame, small_order}
+use Rattle.decoder.proofs.Types.{zeros-words}
 
 pub set_up_accepts : (khz nb : ℤ) (v : Settings) → is_rate khz ≡ true → is_count nb ≡ true → settings_fit v ≡ true → set_up_refusal khz nb v ≡ Ok tt
 unfolding set_up_refusal first_of settings_fit
@@ -139,19 +141,15 @@ plc_typed =
       subfr_length = zero_fits w32;
     }
 
--- a small number fits 32 bits
-pub small-fits : (n : ℕ) → n < 2147483648 → SFits w32 (pos n)
-small-fits n h = record { sfits = h }
-
 default_typed : Typed silk_default
 unfolding silk_default default_settings
 default_typed =
     record {
-      prev_gain_q16 = small-fits 65536 (lit< tt);
+      prev_gain_q16 = abs-fits (pos 65536) (lit< tt);
       exc_q14 = zeros-words 320;
       s_lpc_q14_buf = zeros-words 16;
       out_buf = zeros-words 480;
-      lag_prev = small-fits 100 (lit< tt);
+      lag_prev = abs-fits (pos 100) (lit< tt);
       fs_khz = zero_fits w32;
       nb_subfr = zero_fits w32;
       frame_length = zero_fits w32;
@@ -159,26 +157,26 @@ default_typed =
       ltp_mem_length = zero_fits w32;
       lpc_order = zero_fits w32;
       prev_nlsf_q15 = zeros-words 16;
-      first_frame_after_reset = small-fits 1 (lit< tt);
+      first_frame_after_reset = abs-fits (pos 1) (lit< tt);
       s_cng = cng_typed;
       loss_cnt = zero_fits w32;
       prev_signal_type = zero_fits w32;
       s_plc = plc_typed;
-      settings = record { squelch = zero_fits w32; edition = small-fits 8251 (lit< tt) };
+      settings = record { squelch = zero_fits w32; edition = abs-fits (pos 8251) (lit< tt) };
     }
 
 -- ---- at a rate and a count
 pub rate_fits : (khz : ℤ) → is_rate khz ≡ true → SFits w32 khz
-rate_fits khz e = rw (rate_kept khz e) (small-fits _ (small khz))
+rate_fits khz e = rw (rate_kept khz e) (abs-fits _ (small khz))
 
 pub count_fits : (nb : ℤ) → is_count nb ≡ true → SFits w32 nb
-count_fits nb e = rw (count_kept nb e) (small-fits _ (omega (arith, count_le nb)))
+count_fits nb e = rw (count_kept nb e) (abs-fits _ (omega (arith, count_le nb)))
 
 -- a state with that shape
 pub typed_shape : {s : SilkDecoderState} (khz nb : ℤ) → is_rate khz ≡ true → is_count nb ≡ true → Typed s → Typed (with_shape s khz nb)
 typed_shape khz nb e f t =
-    typed_sizes t (rate_fits khz e) (count_fits nb f) (small-fits _ (small-frame khz nb)) (small-fits _ (small_rate 5 khz (lit≤ tt))) (small-fits _ (small_rate 20 khz (lit≤ tt)))
-    (small-fits _ (small_order (rate_of khz)))
+    typed_sizes t (rate_fits khz e) (count_fits nb f) (abs-fits _ (small_frame khz nb)) (abs-fits _ (small_rate 5 khz (lit≤ tt))) (abs-fits _ (small_rate 20 khz (lit≤ tt)))
+    (abs-fits _ (small_order (rate_of khz)))
 
 pub settings_typed : (v : Settings) → settings_fit v ≡ true → TypedSettings v
 unfolding settings_fit is_squelch

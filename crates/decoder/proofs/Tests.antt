@@ -8,13 +8,16 @@ use borrow.Author.Tests.{eqb-true, eqb-false}
 use lib.Dec.{eqb}
 use lib.IntN.{ℤ, pos}
 use mir.Syntax.{Width, w32}
-use mir.Val.{to_z, of_z, SFits, hbits}
-use mir.Facts.{to_z-of_z}
+use mir.Val.{of_z, SFits, hbits}
 use Rattle.word.specs.Int.{eq_ℤ, wrap32}
-use Rattle.word.proofs.Order.{is, isnt, eq_ℤ_refl, eq_ℤ_ne}
-use Rattle.word.proofs.Words.{wrap_id}
+use Rattle.word.proofs.Order.{is, isnt}
+use mir.Facts.{to_z-of_z}
+use Rattle.word.proofs.Words.{kept, wrap_id}
 use Rattle.shape.specs.Shape.{rate_of, count_of, order_of}
 use Rattle.shape.proofs.Shapes.{rate_le, order_le, frame_le}
+
+-- a value read back from its bits
+pub ruleset words = (kept, to_z-of_z)
 
 -- the bits of a word are k where the number is
 pub is_key : (w : Width) (z : ℤ) (k : ℕ) → k < 2 ^ hbits w → SFits w z → eqb (of_z w z) k ≡ eq_ℤ z (pos k)
@@ -24,16 +27,6 @@ is_key w z k hk f = go (eqb (of_z w z) k) refl
     go true e = sym (is w z k hk f (eqb-true (of_z w z) k e))
     go false e = sym (isnt w z k (eqb-false (of_z w z) k e))
 
--- the bits of two words are the same where the numbers are
-pub same_bits : (w : Width) (a b : ℤ) → SFits w a → SFits w b → eqb (of_z w a) (of_z w b) ≡ eq_ℤ a b
-same_bits w a b f g = go (eqb (of_z w a) (of_z w b)) refl
-  where
-    go : (t : Bool) → eqb (of_z w a) (of_z w b) ≡ t → t ≡ eq_ℤ a b
-    go true e =
-        let k : a ≡ b = sym (to_z-of_z f) ∙ ap (to_z w) (eqb-true (of_z w a) (of_z w b) e) ∙ to_z-of_z g in
-        sym (ap (λ (z : ℤ). eq_ℤ z b) k ∙ eq_ℤ_refl b)
-    go false e = sym (eq_ℤ_ne a b (λ p. eqb-false (of_z w a) (of_z w b) e (ap (of_z w) p)))
-
 -- lengths fit a word
 pub small_rate : (k : ℕ) (z : ℤ) → k ≤ 20 → k * rate_of z < 2147483648
 small_rate k z h = omega (arith, mul-le-mul h (rate_le z))
@@ -41,8 +34,8 @@ small_rate k z h = omega (arith, mul-le-mul h (rate_le z))
 pub small : (z : ℤ) → rate_of z < 2147483648
 small z = omega (arith, rate_le z)
 
-pub small-frame : (z n : ℤ) → 5 * rate_of z * count_of n < 2147483648
-small-frame z n = omega (arith, frame_le z n)
+pub small_frame : (z n : ℤ) → 5 * rate_of z * count_of n < 2147483648
+small_frame z n = omega (arith, frame_le z n)
 
 pub small_order : (r : ℕ) → order_of r < 2147483648
 small_order r = omega (arith, order_le r)

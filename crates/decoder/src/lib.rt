@@ -125,7 +125,7 @@ fn chosen(c: bool, a: i32, b: i32) -> i32
     if c { a } else { b }
 }
 
-// An `==` in place would need the law of a word's bits in each caller's answer.
+// A number is a length: `==` in place would cast each caller's length, and each cast asks for a proof that the length fits.
 pub fn equals(z: i32, n: usize) -> bool
     requires { n < 2147483648 }
     ensures { result ≡ eq_ℤ z (pos n) }
@@ -133,6 +133,7 @@ pub fn equals(z: i32, n: usize) -> bool
     z == n as i32
 }
 
+#[tactic(auto, using(crate::proofs::Tests::words), unfolding(crate::specs::Ranges::within))]
 pub fn within(low: i32, high: i32, z: i32) -> bool
     ensures { result ≡ within low high z }
 {
@@ -144,11 +145,7 @@ pub fn all_within<T: Number>(low: i32, high: i32, xs: &[T], n: usize) -> bool
     requires { n ≤ length xs.now }
     ensures { result ≡ all_within low high (map T.number xs.now) n }
 {
-    let mut ok = true;
-    for x in &xs[..n] {
-        ok &= within(low, high, x.number());
-    }
-    ok
+    xs[..n].iter().all(|x| within(low, high, x.number()))
 }
 
 pub fn is_lag(khz: i32, z: i32) -> bool
@@ -163,21 +160,23 @@ pub fn lines_fit(khz: i32, lines: &[i16; 16]) -> bool
     all_within(0, 32767, lines, Rate::lpc_order(khz))
 }
 
+#[tactic(auto, using(word::proofs::Words::kept, crate::proofs::Tests::is_key), unfolding(crate::specs::Ranges::taps_held))]
 fn taps_held(taps: &[i16; 5]) -> bool
     ensures { result ≡ taps_held taps.now }
 {
-    equals(wide16(taps[0]), 0)
-        & equals(wide16(taps[1]), 0)
+    (taps[0] == 0)
+        & (taps[1] == 0)
         & within(-11456, 15565, wide16(taps[2]))
-        & equals(wide16(taps[3]), 0)
-        & equals(wide16(taps[4]), 0)
+        & (taps[3] == 0)
+        & (taps[4] == 0)
 }
 
+#[tactic(auto, using(word::proofs::Words::kept, crate::proofs::Tests::is_key), unfolding(crate::specs::Ranges::subframes_held))]
 fn subframes_held(khz: i32, n: i32, l: i32) -> bool
     ensures { result ≡ subframes_held (rate_of khz) n l }
 {
-    let few = equals(n, 2) & equals(l, 20);
-    let counted = equals(n, 2) | equals(n, 4);
+    let few = (n == 2) & (l == 20);
+    let counted = (n == 2) | (n == 4);
     few | (counted & equals(l, Rate::subfr_length(khz)))
 }
 
@@ -192,6 +191,7 @@ fn plc_held(khz: i32, h: &SilkPLCState) -> bool
         & subframes_held(khz, h.nb_subfr, h.subfr_length)
 }
 
+#[tactic(auto, using(crate::proofs::Tests::small))]
 fn plc_fits(khz: i32, h: &SilkPLCState) -> bool
     ensures { result ≡ plc_fits (rate_of khz) h.now }
 {
@@ -204,6 +204,7 @@ fn plc_fits(khz: i32, h: &SilkPLCState) -> bool
         & (!equals(h.fs_khz, shape::rate_of(khz)) | plc_held(khz, h))
 }
 
+#[tactic(auto, using(crate::proofs::Tests::small))]
 fn cng_fits(khz: i32, h: &SilkCNGState) -> bool
     ensures { result ≡ cng_fits (rate_of khz) h.now }
 {
@@ -227,12 +228,14 @@ fn decoder_fits(s: &SilkDecoderState, khz: i32) -> bool
         & lines_fit(khz, &s.prev_nlsf_q15)
 }
 
+#[tactic(auto, using(crate::proofs::Tests::words), unfolding(crate::specs::Settings::is_squelch))]
 fn is_squelch(q: i32) -> bool
     ensures { result ≡ is_squelch q }
 {
     within(0, 10000, q)
 }
 
+#[tactic(auto, using(crate::proofs::Tests::words), unfolding(crate::specs::Settings::settings_fit))]
 fn settings_fit(v: Settings) -> bool
     ensures { result ≡ settings_fit v }
 {
@@ -240,6 +243,7 @@ fn settings_fit(v: Settings) -> bool
 }
 
 // A loss now makes the count the squelch or more.
+#[tactic(auto, using(crate::proofs::Tests::words), unfolding(crate::specs::Settings::squelched))]
 pub fn squelched(s: &SilkDecoderState) -> bool
     ensures { result ≡ squelched s.now }
 {
@@ -255,6 +259,7 @@ pub fn rate_row(s: &SilkDecoderState) -> bool
 }
 
 // Row 2.
+#[tactic(auto, using(crate::proofs::Tests::words, crate::proofs::Tests::small_frame, crate::proofs::Tests::small_order), unfolding(crate::specs::Rows::size_row))]
 pub fn size_row(s: &SilkDecoderState) -> bool
     ensures { result ≡ size_row s.now }
 {
@@ -268,6 +273,7 @@ pub fn size_row(s: &SilkDecoderState) -> bool
 }
 
 // Row 3, on the state as a coming rate leaves it.
+#[tactic(auto, using(crate::proofs::Tests::words), unfolding(crate::specs::Rows::history_row, crate::specs::Reshape::reshaped, crate::specs::Reshape::reshaped_by))]
 pub fn history_row(s: &SilkDecoderState, khz: i32) -> bool
     ensures { (nb : ℤ) → result ≡ history_row (rate_of khz) (reshaped khz nb s.now) }
 {
@@ -288,6 +294,15 @@ impl From<Signal> for i8 {
             Signal::Voiced => 2,
             Signal::Other(n) => n,
         }
+    }
+}
+
+// The same number, in 32 bits.
+impl From<Signal> for i32 {
+    ghost from_gives = { λ s k. k ≡ signal_number s };
+
+    fn from(s: Signal) -> i32 {
+        i32::from(i8::from(s))
     }
 }
 
@@ -316,6 +331,7 @@ pub fn is_voiced(s: Signal) -> bool
     matches!(i8::from(s), 2)
 }
 
+#[tactic(auto, unfolding(crate::specs::SetUp::cng_default))]
 fn cng_default() -> SilkCNGState
     ensures { result ≡ cng_default }
 {
@@ -329,6 +345,7 @@ fn cng_default() -> SilkCNGState
     }
 }
 
+#[tactic(auto, unfolding(crate::specs::SetUp::plc_default))]
 fn plc_default() -> SilkPLCState
     ensures { result ≡ plc_default }
 {
@@ -358,6 +375,7 @@ fn length_number(n: usize) -> i32
 }
 
 // A rate, a count of subframes, and the lengths and the order that follow from them.
+#[tactic(auto, using(crate::proofs::Tests::small_frame, crate::proofs::Tests::small_order))]
 fn with_shape(s: &mut SilkDecoderState, khz: i32, nb_subfr: i32)
     ensures { s.new ≡ with_shape s.old khz nb_subfr }
 {
@@ -390,10 +408,12 @@ pub fn reshape(s: &mut SilkDecoderState, khz: i32, nb_subfr: i32)
 }
 
 // A coming shape that is the one held changes nothing.
+#[tactic(auto, using(crate::proofs::Coming::same_shape))]
 pub fn same_shape()
     ensures { SameShape }
 {}
 
+#[tactic(auto, unfolding(crate::specs::SetUp::silk_default))]
 fn silk_default() -> SilkDecoderState
     ensures { result ≡ silk_default }
 {
@@ -420,6 +440,7 @@ fn silk_default() -> SilkDecoderState
 }
 
 // The default state at a rate and a count of subframes, with settings.
+#[tactic(auto, using(crate::proofs::Tests::words), unfolding(crate::specs::SetUp::state_from))]
 fn state_from(khz: i32, nb_subfr: i32, settings: Settings) -> SilkDecoderState
     ensures { result ≡ state_from khz nb_subfr settings }
 {
@@ -439,6 +460,7 @@ fn set_up_refusal(khz: i32, nb_subfr: i32, settings: Settings) -> Result<(), Ref
     refuse_if(!is_edition(settings.edition), Refusal::Edition)
 }
 
+#[tactic(auto, unfolding(crate::specs::Settings::default_settings))]
 pub fn default_settings() -> Settings
     ensures { result ≡ default_settings }
 {
@@ -461,6 +483,7 @@ pub fn set_up_with(
 }
 
 // Set-up with the default settings.
+#[tactic(auto, using(crate::proofs::Tests::words), unfolding(crate::specs::SetUp::set_up))]
 pub fn set_up(fs_khz: i32, nb_subfr: i32) -> Result<SilkDecoderState, Refusal>
     ensures { result ≡ set_up fs_khz nb_subfr }
 {

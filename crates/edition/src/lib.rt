@@ -1,4 +1,5 @@
 // Editions of the standard, by the number of their RFC.
+// No enum stands for the two: a call brings a number, and a state can hold one that is no edition.
 // Inner: every function.
 #![tactic(auto)]
 

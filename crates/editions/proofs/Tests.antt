@@ -58,9 +58,9 @@ unfolding stability stability_by
 alike a =
     either_same Fits (le_z (pos 4096) (total a (length a))) _ _ _ _ (λ p. refl) (alike-steps a_limit _ (pos (2 ^ 30)) (length a - 1))
 
-pub older-fits : OlderFits
+pub older_fits : OlderFits
 unfolding stability stability_by answer_number
-older-fits a = go (le_z (pos 4096) (total a (length a))) (older-steps a_limit _ (pos (2 ^ 30)) (length a - 1))
+older_fits a = go (le_z (pos 4096) (total a (length a))) (older-steps a_limit _ (pos (2 ^ 30)) (length a - 1))
   where
     go : (b : Bool) {s : Stability} → Fits s → Fits (cond b (Err Sum) s)
     go true h = other a_limit (Err Sum) (lit< tt)

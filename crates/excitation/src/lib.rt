@@ -66,6 +66,7 @@ pub fn excite(exc: &mut [i32], pulses: &[i16], offset: i32, seed: i32)
     ensures { exc.new ≡ excitation offset pulses.now seed (length exc.old) }
 {
     let mut g = seed;
+    // Not a zip: after one over `iter_mut` only the length of exc is known.
     for (i, e) in exc.iter_mut().enumerate() {
         let p = pulses[i];
         let r = silk_rand(g);

@@ -10,7 +10,6 @@ use Rattle.shape.specs.Shape.{frame_length}
 use Rattle.decoder.specs.Ranges.{within}
 use Rattle.decoder.specs.Settings.{is_squelch, settings_fit, squelched}
 use Rattle.decoder.specs.Reshape.{reshaped_by, reshaped}
-use Rattle.decoder.specs.declared.Settings.{Settings}
 use Rattle.decoder.specs.declared.SilkDecoderState.{SilkDecoderState}
 use Rattle.decoder.specs.declared.Frame.{Frame}
 use Rattle.decoder.specs.declared.Frame.TheVariants.{Lost}
@@ -19,28 +18,24 @@ use Rattle.decode_frame.specs.Call.{Call, shape_at, state_at}
 use Rattle.decode_frame.specs.Answer.{frame_refusal, frame_outcome, frame_output}
 use Rattle.frame_settings.specs.Changed.{answer_by}
 use Rattle.frame_settings.specs.Squelch.{with_squelch, StateAsBefore, SamplesAsBefore, LostAsBefore, PlaysZeros}
-use Rattle.frame_settings.proofs.With.{refusal_with, answer_left, output-left, changed}
-
--- the settings of a state, with another squelch
-abbrev by : ℤ → SilkDecoderState → Settings
-by q s = record { squelch = q; edition = s.settings.edition }
+use Rattle.frame_settings.proofs.With.{by, refusal_with, answer_left, output-left, changed}
 
 module _ (q : ℤ) (s : SilkDecoderState) (x : Call) (e : is_squelch q ≡ true) where
   refused : frame_refusal (with_squelch q s) x ≡ frame_refusal (with_squelch (pos 0) s) x
   unfolding settings_fit is_squelch within
-  refused = refusal_with (by q s) (by (pos 0) s) s x (ap (λ (b : Bool). b && is_edition s.settings.edition) e)
+  refused = refusal_with (by q s.settings.edition) (by (pos 0) s.settings.edition) s x (ap (λ (b : Bool). b && is_edition s.settings.edition) e)
 
 pub state_as_before : StateAsBefore
 state_as_before q s x e =
     let j = frame_refusal (with_squelch (pos 0) s) x in
-    answer_left s x j (by q s) (refused q s x e) (λ z. refl) ∙ changed (answer_by (with_squelch q)) j _ _ refl (λ r. refl)
-    ∙ sym (ap (answer_by (with_squelch q)) (answer_left s x j (by (pos 0) s) refl (λ z. refl)))
+    answer_left s x j (by q s.settings.edition) (refused q s x e) (λ z. refl) ∙ changed (answer_by (with_squelch q)) j _ _ refl (λ r. refl)
+    ∙ sym (ap (answer_by (with_squelch q)) (answer_left s x j (by (pos 0) s.settings.edition) refl (λ z. refl)))
 
 pub samples_as_before : SamplesAsBefore
 unfolding squelched
 samples_as_before q s x e k =
     let r = frame_refusal (with_squelch (pos 0) s) x in
-    output-left s x r (by q s) (refused q s x e) (λ z. refl) k ∙ sym (output-left s x r (by (pos 0) s) refl (λ z. refl) (λ z. refl))
+    output-left s x r (by q s.settings.edition) (refused q s x e) (λ z. refl) k ∙ sym (output-left s x r (by (pos 0) s.settings.edition) refl (λ z. refl) (λ z. refl))
 
 -- a lost frame as it is squelched or not
 lost-by : (s : SilkDecoderState) (x : Call) (b : Bool) → x.frame ≡ Lost → squelched s ≡ b → frame_outcome s x ≡ muted (shape_at x) b (lost (shape_at x) (state_at s x) x.control)

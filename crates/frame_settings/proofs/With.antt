@@ -37,6 +37,10 @@ use Rattle.decode_frame.specs.Call.{Call, shape_at, state_at}
 use Rattle.decode_frame.specs.Answer.{frame_refusal, frame_answer, frame_output}
 use Rattle.decode_frame.proofs.Noised.{glued}
 
+-- a squelch with an edition
+abbrev pub by : ℤ → ℤ → Settings
+by q e = record { squelch = q; edition = e }
+
 abbrev outcome_with : Settings → Outcome → Outcome
 outcome_with v o = record { state = with_settings o.state v; control = o.control; samples = o.samples }
 
@@ -66,8 +70,8 @@ finished-with v p o k =
 lost-with : (v : Settings) (p : Shape) (s : SilkDecoderState) (c : SilkDecoderControl) → v.edition ≡ s.settings.edition → lost p (with_settings s v) c ≡ outcome_with v (lost p s c)
 unfolding lost remembered plc_conceal signal voice coefficients noise_place heard concealed held_after
 lost-with v p s c k =
-    let w : Settings = record { squelch = v.squelch; edition = s.settings.edition } in
-    let e : v ≡ w = λ i. record { squelch = v.squelch; edition = k i } in
+    let w = by v.squelch s.settings.edition in
+    let e : v ≡ w = λ i. by v.squelch (k i) in
     let o = plc_conceal p s c in
     ap (λ (u : Settings). lost p (with_settings s u) c) e
     ∙ finished-with w p (record { state = remembered p o.state o.samples; control = o.control; samples = o.samples }) refl

@@ -1,10 +1,11 @@
-// What squelch and edition change of a whole frame. The claims have no code: each is a contract.
+// What squelch and edition change of a whole frame.
 #![tactic(auto)]
 
 ghost use Rattle.frame_settings.specs.Squelch.{StateAsBefore, SamplesAsBefore, LostAsBefore, PlaysZeros};
 ghost use Rattle.frame_settings.specs.Editions.{ReceivedAlike};
 
 // A squelch puts zeros in place of a lost frame's samples and changes nothing else.
+#[tactic(auto, using(crate::proofs::Squelch::state_as_before, crate::proofs::Squelch::samples_as_before, crate::proofs::Squelch::lost_as_before, crate::proofs::Squelch::plays_zeros))]
 pub fn squelch_silences()
     ensures { StateAsBefore × SamplesAsBefore × LostAsBefore × PlaysZeros }
 {}

@@ -2,7 +2,7 @@
 // Inner: every function but leap_of, undoing and leaps.
 #![tactic(auto)]
 
-ghost use Rattle.std.specs.Prelude.{◌≡◌, cond, ◌-◌, ◌%◌, eqb, ℤ, pos, ◌+ℤ◌, length, map};
+ghost use Rattle.std.specs.Prelude.{◌≡◌, cond, ◌-◌, ◌%◌, eqb, pos, ◌+ℤ◌, length, map};
 ghost use Rattle.std.specs.Int.{Width, w8, w16, w32};
 ghost use Rattle.std.proofs.Common.{SFits};
 ghost use Rattle.generator.specs.Draws.{drawn, unsigned};
@@ -11,7 +11,7 @@ ghost use Rattle.generator.specs.Leaps.{landed, joined, no_draw, one_draw, leap_
 ghost use Rattle.generator.specs.Claims.{LeapDraws, LeapsAdd, LeapUndone, LeapPeriod};
 
 use macros::silk_rand;
-use word::{add32, bits32, mul32, wide};
+use word::{Number, add32, bits32, mul32, wide};
 
 // A map from x to factor x + term, in 32 bits.
 #[derive(Clone, Copy)]
@@ -20,6 +20,7 @@ pub struct Leap {
     pub term: i32,
 }
 
+#[tactic(auto, using(macros::proofs::Kept::words, word::proofs::Words::wrap_add_l), unfolding(crate::specs::Leaps::landed))]
 pub fn landed(f: Leap, x: i32) -> i32
     ensures { result ≡ landed f x }
 {
@@ -27,6 +28,7 @@ pub fn landed(f: Leap, x: i32) -> i32
 }
 
 // One leap, then another.
+#[tactic(auto, using(macros::proofs::Kept::words, word::proofs::Words::wrap_add_l), unfolding(crate::specs::Leaps::joined))]
 pub fn joined(f: Leap, g: Leap) -> Leap
     ensures { result ≡ joined f g }
 {
@@ -70,7 +72,7 @@ pub fn leap_of(draws: u64) -> Leap
     let mut all = no_draw();
     let mut power = one_draw();
     let mut left = draws;
-    // The loop halves what is left: it counts no index, and no iterator gives the halves.
+    // Not `successors` with `take_while`: to the library that chain is endless, and no loop over it is proved to end.
     while left > 0 {
         all = joined_if_odd(all, power, left);
         power = joined(power, power);
@@ -100,25 +102,21 @@ pub fn drawn(seed: i32, draws: u64) -> i32
 fn scaled(low: i32, count: u32, x: i32) -> i64
     ensures { result ≡ scaled low count (unsigned x) }
 {
-    let share = (bits32(x) as u64) * (count as u64) / 4294967296;
+    let share = u64::from(bits32(x)) * u64::from(count) / 4294967296;
     wide(low) + (share as i64)
 }
 
 // A signed number of a width, which a draw fits if both ends of its range do.
-pub trait Narrow: Copy + Default {
+pub trait Narrow: Number + Default {
     ghost width: { Width };
-
-    ghost value: { Self → ℤ };
 
     fn narrowed(x: i64) -> Self
         requires { SFits width x }
-        ensures { value result ≡ x };
+        ensures { Self.number result ≡ x };
 }
 
 impl Narrow for i8 {
     ghost width = { w8 };
-
-    ghost value = { λ x. x };
 
     fn narrowed(x: i64) -> i8 {
         x as i8
@@ -128,8 +126,6 @@ impl Narrow for i8 {
 impl Narrow for i16 {
     ghost width = { w16 };
 
-    ghost value = { λ x. x };
-
     fn narrowed(x: i64) -> i16 {
         x as i16
     }
@@ -138,18 +134,15 @@ impl Narrow for i16 {
 impl Narrow for i32 {
     ghost width = { w32 };
 
-    ghost value = { λ x. x };
-
     fn narrowed(x: i64) -> i32 {
         x as i32
     }
 }
 
-// Draw at of a seed, scaled. The range is two numbers: as a struct with the fact in a ghost field it would be made anew at
-// each draw, and the fact would be a goal there as it is now.
+// Draw at of a seed, scaled; the range is two numbers, since a struct with the fact in a ghost field would be made at each draw.
 pub fn pick<T: Narrow>(seed: i32, at: u64, low: i32, count: u32) -> T
     requires { SFits T.width low × SFits T.width (low +ℤ pos (count - 1)) }
-    ensures { T.value result ≡ pick low count seed at }
+    ensures { T.number result ≡ pick low count seed at }
 {
     T::narrowed(scaled(low, count, silk_rand(drawn(seed, at))))
 }
@@ -157,7 +150,7 @@ pub fn pick<T: Narrow>(seed: i32, at: u64, low: i32, count: u32) -> T
 // A slice filled with the draws from draw at on.
 pub fn picks<T: Narrow>(seed: i32, at: u64, low: i32, count: u32, to: &mut [T])
     requires { SFits T.width low × SFits T.width (low +ℤ pos (count - 1)) }
-    ensures { map T.value to.new ≡ picks low count seed at (length to.old) }
+    ensures { map T.number to.new ≡ picks low count seed at (length to.old) }
 {
     let mut x = drawn(seed, at);
     for v in to.iter_mut() {
@@ -166,7 +159,7 @@ pub fn picks<T: Narrow>(seed: i32, at: u64, low: i32, count: u32, to: &mut [T])
     }
 }
 
-// A leap of k draws is k single ones, leaps add, every leap has one that undoes it, and 2 ^ 32 draws are none: claims, with no code.
+// A leap of k draws is k single ones, leaps add, every leap has one that undoes it, and 2 ^ 32 draws are none.
 pub fn leaps()
     ensures { LeapDraws × LeapsAdd × LeapUndone × LeapPeriod }
 {}

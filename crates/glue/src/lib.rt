@@ -2,9 +2,9 @@
 // Inner: every function but silk_plc_glue_frames.
 #![tactic(auto)]
 
-ghost use Rattle.std.specs.Prelude.{◌≡◌, cond, ◌^◌, ◌-◌, ◌≤◌, ◌<◌, pos, nat_abs, ◌+ℤ◌, ◌-ℤ◌, ◌*ℤ◌, length, take, drop};
+ghost use Rattle.std.specs.Prelude.{◌≡◌, cond, ◌^◌, ◌-◌, ◌≤◌, ◌<◌, pos, nat_abs, ◌-ℤ◌, ◌*ℤ◌, length};
 ghost use Rattle.std.specs.Int.Signed.{quot_z};
-ghost use Rattle.word.specs.Int.{eq_ℤ, wrap16, wrap32, floor_div};
+ghost use Rattle.word.specs.Int.{eq_ℤ, wrap16, wrap32};
 ghost use Rattle.macros.specs.Fixed.{smulwb};
 ghost use Rattle.sigproc.specs.Energy.{energy_at, energy_shift};
 ghost use Rattle.glue.specs.Glue.{hold_energy, ramped, start_gain, lowered, joined, glue_frames};
@@ -17,6 +17,7 @@ use sigproc::silk_sum_sqr_shift;
 use word::{add32, low16, shl32, shr32, sub32, wide16};
 
 // An energy, not negative, that was shifted down by a shift of 0 to 31.
+// Not sigproc::Energy with these facts: its definition gives one of every list, and of 2 ^ 31 samples one with a shift of 34.
 #[derive(Clone, Copy)]
 struct ShiftedEnergy {
     energy: i32,
@@ -70,7 +71,8 @@ fn slope_of(gain: i32, n: i32) -> i32
     shl32(silk_div32(sub32(65536, gain), n), 2)
 }
 
-// A frame's length is asked as a clause: as a type it would wrap the slice that each caller lends.
+// A frame's length is a clause here and below: as a type it would be two, around `&` for leave_energy and around `&mut` for
+// receive, and each caller would make one for a single call.
 fn join(frame: &mut [i16], held: ShiftedEnergy)
     requires { (1 ≤ length frame.old) × (length frame.old ≤ 320) }
     ensures { frame.new ≡ joined held.energy held.shift frame.old }
@@ -90,16 +92,18 @@ fn join(frame: &mut [i16], held: ShiftedEnergy)
 }
 
 // What a lost frame leaves: its energy.
+#[tactic(auto, using(word::proofs::Words::kept), unfolding(sigproc::specs::Energy::sum_sqr_shift))]
 pub fn leave_energy(h: SilkPLCState, frame: &[i16]) -> SilkPLCState
     requires { (1 ≤ length frame.now) × (length frame.now ≤ 320) }
     ensures { result ≡ hold_energy h (pos 1) (pos (energy_at frame.now (energy_shift frame.now))) (pos (energy_shift frame.now)) }
 {
     let e = silk_sum_sqr_shift(frame);
-    let mut t = h;
-    t.last_frame_lost = 1;
-    t.conc_energy = e.energy;
-    t.conc_energy_shift = e.shift;
-    t
+    SilkPLCState {
+        last_frame_lost: 1,
+        conc_energy: e.energy,
+        conc_energy_shift: e.shift,
+        ..h
+    }
 }
 
 // A received frame is joined if the last was lost.
@@ -108,8 +112,10 @@ pub fn receive(h: SilkPLCState, frame: &mut [i16]) -> SilkPLCState
     ensures { (result ≡ hold_energy h (pos 0) h.conc_energy h.conc_energy_shift)
         × (frame.new ≡ cond (eq_ℤ h.last_frame_lost (pos 0)) frame.old (joined h.conc_energy h.conc_energy_shift frame.old)) }
 {
-    let mut t = h;
-    t.last_frame_lost = 0;
+    let t = SilkPLCState {
+        last_frame_lost: 0,
+        ..h
+    };
     if h.last_frame_lost == 0 {
         return t;
     }
@@ -121,20 +127,19 @@ pub fn receive(h: SilkPLCState, frame: &mut [i16]) -> SilkPLCState
     t
 }
 
+// The energy held is asked of the state's own fields, as in receive: an Energy beside the state would be tied to them by two equations.
+#[tactic(auto, using(word::proofs::Words::kept, word::proofs::Order::is, word::proofs::Order::isnt), unfolding(crate::specs::Glue::glue_frames))]
 fn glue_frames(s: SilkDecoderState, frame: &mut [i16]) -> SilkDecoderState
     requires { (1 ≤ length frame.old) × (length frame.old ≤ 320) × (s.s_plc.conc_energy ≡ pos (nat_abs s.s_plc.conc_energy)) × (s.s_plc.conc_energy_shift ≡ pos (nat_abs s.s_plc.conc_energy_shift)) × (nat_abs s.s_plc.conc_energy_shift ≤ 31) }
     ensures { (result ≡ (glue_frames s frame.old).state) × (frame.new ≡ (glue_frames s frame.old).frame) }
 {
     let h = s.s_plc;
-    let mut t = s;
     if s.loss_cnt == 0 {
-        let p = receive(h, frame);
-        t.s_plc = p;
-        return t;
+        let s_plc = receive(h, frame);
+        return SilkDecoderState { s_plc, ..s };
     }
-    let p = leave_energy(h, frame);
-    t.s_plc = p;
-    t
+    let s_plc = leave_energy(h, frame);
+    SilkDecoderState { s_plc, ..s }
 }
 
 // Gluing as a call on the first n samples of a buffer: refused, it changes nothing.

@@ -1,21 +1,17 @@
 -- Samples beyond a limit, of two lists one behind the other, and of a frame.
-use mathlib.Core.Path.{◌≡◌, refl, ap, ◌∙◌}
-use mathlib.Core.Bool.{Bool, true, false, ◌||◌}
-use mathlib.Core.List.{List, [], ◌∷◌, ◌++◌}
+use mathlib.Core.Path.{◌≡◌, refl}
+use mathlib.Core.Bool.{◌||◌}
+use mathlib.Core.List.{List, ◌++◌}
 use lib.IntN.{ℤ}
+use Rattle.std.proofs.lemmas.List.Folds.{list_any-append}
 use Rattle.decoder.specs.declared.SilkDecoderState.{SilkDecoderState}
 use Rattle.record.specs.Recorded.{Recorded, lost, received}
 use Rattle.playback.specs.Playback.{call_of, sound_of}
 use Rattle.heard.specs.Loud.{is_beyond, any_beyond, heard_in, heard_of}
 
-or_assoc : (s t u : Bool) → (s || (t || u)) ≡ ((s || t) || u)
-or_assoc true t u = refl
-or_assoc false t u = refl
-
 pub beyond-append : (l : ℤ) (xs ys : List ℤ) → any_beyond l (xs ++ ys) ≡ (any_beyond l xs || any_beyond l ys)
 unfolding any_beyond
-beyond-append l [] ys = refl
-beyond-append l (x ∷ xs) ys = ap (λ (t : Bool). is_beyond l x || t) (beyond-append l xs ys) ∙ or_assoc (is_beyond l x) (any_beyond l xs) (any_beyond l ys)
+beyond-append l xs ys = list_any-append (is_beyond l) xs ys
 
 -- a frame's call has the shape that it is given
 pub heard-shape : (l : ℤ) (s : SilkDecoderState) (khz nb : ℤ) (x : Recorded)

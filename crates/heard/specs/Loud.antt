@@ -6,7 +6,7 @@ use Rattle.shape.specs.Shape.{shape, frame_length}
 use Rattle.decoder.specs.declared.SilkDecoderState.{SilkDecoderState}
 use Rattle.decode_frame.specs.Call.{Call, shape_at}
 use Rattle.playback.specs.Playback.{sound_of}
-use Rattle.playback.specs.declared.Sound.{Sound}
+use Rattle.record.specs.declared.Sound.{Sound}
 use Rattle.heard.specs.declared.Heard.{Heard}
 
 -- a sample is beyond a limit in size

@@ -8,8 +8,8 @@ ghost use Rattle.playback.specs.Playback.{call_of};
 ghost use Rattle.heard.specs.Loud.{any_beyond, heard_in, heard_of};
 
 use decoder::SilkDecoderState;
-use playback::{Sound, frame_sound, lost_sound};
-use record::Record;
+use playback::{frame_sound, lost_sound};
+use record::{Record, Sound};
 use shape::frame_length;
 
 // The state stays beside the flag: it is promised of a loud frame too.
@@ -45,14 +45,8 @@ pub fn lost_heard(s: SilkDecoderState, khz: i32, nb_subfr: i32, limit: i32) -> H
 }
 
 // The frame of a record.
-pub fn frame_heard(
-    s: SilkDecoderState,
-    khz: i32,
-    nb_subfr: i32,
-    record: &Record,
-    limit: i32,
-) -> Heard
-    ensures { result ≡ heard_of limit s (call_of khz nb_subfr (recorded_in record.now.bytes.now)) }
+pub fn frame_heard(s: SilkDecoderState, khz: i32, nb_subfr: i32, r: &Record, limit: i32) -> Heard
+    ensures { result ≡ heard_of limit s (call_of khz nb_subfr (recorded_in r.now.bytes.now)) }
 {
-    heard_in(limit, khz, nb_subfr, frame_sound(s, khz, nb_subfr, record))
+    heard_in(limit, khz, nb_subfr, frame_sound(s, khz, nb_subfr, r))
 }

@@ -30,7 +30,7 @@ pub fn read_full<R: Read>(input: &mut R, buffer: &mut [u8]) -> io::Result<usize>
 }
 
 // Whether the input had the bytes to fill the buffer; else it ended before.
-pub fn is_filled<R: Read>(input: &mut R, buffer: &mut [u8]) -> io::Result<bool>
+pub fn fill<R: Read>(input: &mut R, buffer: &mut [u8]) -> io::Result<bool>
     ensures bytes { IfOk result (λ whole. Fills (R.remaining input.old) (R.remaining input.new) whole buffer.new) }
     ensures retried { IfErr result (λ e. error_kind e ≢ ErrorKind.Interrupted) }
 {
@@ -67,8 +67,8 @@ mod tests {
         let n = read_full(&mut Interrupted { turns: 0 }, &mut buffer)?;
         assert_eq!(rt; n, 3);
         assert_eq!(rt; buffer, [2, 4, 6, 0, 0]);
-        assert!(rt; is_filled(&mut Interrupted { turns: 0 }, &mut buffer[..3])?);
-        assert!(rt; !is_filled(&mut Interrupted { turns: 0 }, &mut buffer[..4])?);
+        assert!(rt; fill(&mut Interrupted { turns: 0 }, &mut buffer[..3])?);
+        assert!(rt; !fill(&mut Interrupted { turns: 0 }, &mut buffer[..4])?);
         Ok(())
     }
 }

@@ -1,9 +1,10 @@
 -- The sum of a subframe's taps.
 use Prim.Native.Nat.{ℕ, zero, suc, ◌+◌, ◌*◌, ◌<◌, ◌≤◌}
-use mathlib.Core.Path.{◌≡◌, ap, ◌∙◌}
-use mathlib.Core.Bool.{true}
-use mathlib.Core.List.{List}
+use mathlib.Core.Path.{◌≡◌, refl, sym, ap, ◌∙◌}
+use mathlib.Core.Bool.{Bool, true, ◌&&◌}
+use mathlib.Core.List.{List, [], ◌∷◌, map}
 use native.Mathlib.Omega.{arith}
+use native.Mathlib.Numerals.{add-one}
 use borrow.Author.Count.{below_more}
 use borrow.Author.Tests.{leb-true}
 use lib.Dec.{leb}
@@ -11,6 +12,10 @@ use lib.IntN.{ℤ, pos, negsuc, nat_abs, ◌+ℤ◌}
 use lib.ListN.{get_or}
 use mir.Syntax.{w16, w32}
 use mir.Val.{SFits}
+use Rattle.std.proofs.Math.Bool.{and-true}
+use Rattle.std.specs.List.{list_all, range_with_len}
+use Rattle.std.proofs.lemmas.List.Folds.{list_all-append}
+use Rattle.std.proofs.lemmas.List.FromFn.{map-range_with_len_more}
 use Rattle.word.specs.Int.{wrap32}
 use Rattle.word.proofs.Sizes.{abs-add, abs-fits, fits-abs}
 use Rattle.word.proofs.Words.{wrap_id, wrap_add_l}
@@ -64,3 +69,17 @@ each_fits taps zero e k l = absurd (omega arith)
 each_fits taps (suc n) e k l =
     let b = both (taps_fit taps n) (within (negsuc 32767) (pos 32767) (tap_sum taps n)) e in
     below_more (λ j. SFits w16 (tap_sum taps j)) n (each_fits taps n b.0) (in_16 (tap_sum taps n) b.1) k (omega arith)
+
+abbrev pub in_word : ℤ → Bool
+in_word = within (negsuc 32767) (pos 32767)
+
+-- the sums one by one
+pub each_sum : (taps : List ℤ) (n : ℕ) → list_all in_word (map (tap_sum taps) (range_with_len 0 n)) ≡ taps_fit taps n
+unfolding taps_fit
+each_sum taps zero = refl
+each_sum taps (suc n) =
+    let f = tap_sum taps in
+    ap (λ (m : ℕ). list_all in_word (map f (range_with_len 0 m))) (sym (add-one n))
+    ∙ ap (list_all in_word) (map-range_with_len_more f 0 n n (omega arith))
+    ∙ list_all-append in_word (map f (range_with_len 0 n)) (f n ∷ [])
+    ∙ (λ i. each_sum taps n i && and-true (in_word (f n)) i)

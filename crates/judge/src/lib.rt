@@ -14,7 +14,7 @@ ghost use Rattle.judge.specs.Taps.{tap_sum, taps_fit};
 ghost use Rattle.judge.specs.Rows.{signal_row, gain_row, lag_row, taps_row, room_row, length_row, param_rows, description_rows, room_rows, loss_rows, received_rows, lost_rows, frame_rows, core_rows, plc_received_rows, plc_lost_rows, glue_rows, cng_rows};
 
 use decoder::{
-    Frame, Params, SilkDecoderControl, SilkDecoderState, all_within, equals, history_row, is_type,
+    Frame, Params, SilkDecoderControl, SilkDecoderState, all_within, history_row, is_type,
     is_voiced, lines_fit, rate_row, size_row, within,
 };
 use refusal::{Refusal, refuse_if};
@@ -58,6 +58,7 @@ fn is_interpolation(n: i8) -> bool
     matches!(n, 0..=4)
 }
 
+#[tactic(auto, using(decoder::proofs::Tests::words), unfolding(crate::specs::Rows::signal_row))]
 fn signal_row(q: Params) -> bool
     ensures { result ≡ signal_row q }
 {
@@ -68,12 +69,14 @@ fn signal_row(q: Params) -> bool
     !ok
 }
 
+#[tactic(auto, using(decoder::proofs::Tests::words, shape::proofs::Shapes::count_le), unfolding(crate::specs::Rows::gain_row))]
 fn gain_row(nb_subfr: i32, c: &SilkDecoderControl) -> bool
     ensures { result ≡ gain_row (count_of nb_subfr) c.now }
 {
     !all_within(81920, 1686110208, &c.gains_q16, count_of(nb_subfr))
 }
 
+#[tactic(auto, using(shape::proofs::Shapes::count_le))]
 fn lag_row(fs_khz: i32, nb_subfr: i32, q: Params, c: &SilkDecoderControl) -> bool
     ensures { result ≡ lag_row (shape fs_khz nb_subfr) q c.now }
 {
@@ -89,13 +92,10 @@ fn taps_fit(taps: &[i16; 20], n: usize) -> bool
     requires { n ≤ 4 }
     ensures { result ≡ taps_fit taps.now n }
 {
-    let mut ok = true;
-    for k in 0..n {
-        ok &= within(-32768, 32767, tap_sum(taps, k));
-    }
-    ok
+    (0..n).all(|k| within(-32768, 32767, tap_sum(taps, k)))
 }
 
+#[tactic(auto, using(shape::proofs::Shapes::count_le))]
 fn taps_row(nb_subfr: i32, q: Params, c: &SilkDecoderControl) -> bool
     ensures { result ≡ taps_row (count_of nb_subfr) q c.now }
 {
@@ -116,6 +116,7 @@ fn room_row(fs_khz: i32, nb_subfr: i32, lent: usize) -> bool
     lent < frame_length(fs_khz, nb_subfr)
 }
 
+#[tactic(auto, unfolding(crate::specs::Rows::length_row))]
 fn length_row(lent: usize, n: usize) -> bool
     ensures { result ≡ length_row lent n }
 {
@@ -123,6 +124,7 @@ fn length_row(lent: usize, n: usize) -> bool
 }
 
 // Rows 1 to 3 with a coming shape.
+#[tactic(auto, using(decoder::proofs::Tests::words), unfolding(refusal::specs::First::first_of))]
 fn coming_rows(s: &SilkDecoderState, khz: i32, nb_subfr: i32) -> Result<(), Refusal>
     ensures { result ≡ first_of (coming_rows khz nb_subfr s.now) }
 {
@@ -134,6 +136,7 @@ fn coming_rows(s: &SilkDecoderState, khz: i32, nb_subfr: i32) -> Result<(), Refu
 }
 
 // Rows 1 to 3 at the shape that a state holds.
+#[tactic(auto, using(decoder::proofs::Tests::words, decoder::proofs::Coming::held_rows))]
 fn state_rows(s: &SilkDecoderState) -> Result<(), Refusal>
     ensures { result ≡ first_of (state_rows s.now) }
 {
@@ -176,6 +179,7 @@ fn room_rows(fs_khz: i32, nb_subfr: i32, pulses: usize, output: usize) -> Result
 }
 
 // Rows 4 and 11.
+#[tactic(auto, using(decoder::proofs::Tests::words), unfolding(refusal::specs::First::first_of))]
 fn loss_rows(s: &SilkDecoderState, khz: i32, nb_subfr: i32, output: usize) -> Result<(), Refusal>
     ensures { result ≡ first_of (loss_rows (shape khz nb_subfr) s.now output) }
 {
@@ -183,7 +187,9 @@ fn loss_rows(s: &SilkDecoderState, khz: i32, nb_subfr: i32, output: usize) -> Re
     refuse_if(room_row(khz, nb_subfr, output), Refusal::Speaker)
 }
 
-// A whole received frame with its coming shape.
+// A whole received frame with its coming shape. The parts stand one beside the other, as document 01 names them.
+// The coming rate and count are two numbers: a FrameShape holds only what rows 1 and 2, which are judged here, let pass.
+#[tactic(auto, using(decoder::proofs::Tests::words, refusal::proofs::Clear::append_err, refusal::proofs::Clear::append_ok), unfolding(refusal::specs::First::first_of))]
 pub fn received(
     s: &SilkDecoderState,
     khz: i32,
@@ -202,6 +208,7 @@ pub fn received(
 }
 
 // A whole lost frame with its coming shape.
+#[tactic(auto, using(decoder::proofs::Tests::words, refusal::proofs::Clear::append_err, refusal::proofs::Clear::append_ok), unfolding(refusal::specs::First::first_of))]
 pub fn lost(s: &SilkDecoderState, khz: i32, nb_subfr: i32, output: usize) -> Result<(), Refusal>
     ensures { result ≡ first_of (lost_rows khz nb_subfr s.now output) }
 {
@@ -209,6 +216,7 @@ pub fn lost(s: &SilkDecoderState, khz: i32, nb_subfr: i32, output: usize) -> Res
     loss_rows(s, khz, nb_subfr, output)
 }
 
+// The same of a frame that may be lost, with the same parts.
 pub fn frame(
     s: &SilkDecoderState,
     khz: i32,
@@ -227,6 +235,7 @@ pub fn frame(
     received(s, khz, nb_subfr, q, c, lines, pulses, output)
 }
 
+#[tactic(auto, using(decoder::proofs::Tests::words, refusal::proofs::Clear::append_err, refusal::proofs::Clear::append_ok), unfolding(refusal::specs::First::first_of))]
 pub fn core(
     s: &SilkDecoderState,
     q: Params,
@@ -241,6 +250,7 @@ pub fn core(
     room_rows(s.fs_khz, s.nb_subfr, pulses, output)
 }
 
+#[tactic(auto, using(decoder::proofs::Tests::words, refusal::proofs::Clear::append_err, refusal::proofs::Clear::append_ok), unfolding(refusal::specs::First::first_of))]
 pub fn plc_received(s: &SilkDecoderState, q: Params, c: &SilkDecoderControl) -> Result<(), Refusal>
     ensures { result ≡ first_of (plc_received_rows s.now q c.now) }
 {
@@ -248,6 +258,7 @@ pub fn plc_received(s: &SilkDecoderState, q: Params, c: &SilkDecoderControl) -> 
     param_rows(s.fs_khz, s.nb_subfr, q, c)
 }
 
+#[tactic(auto, using(decoder::proofs::Tests::words, refusal::proofs::Clear::append_err, refusal::proofs::Clear::append_ok), unfolding(refusal::specs::First::first_of))]
 pub fn plc_lost(s: &SilkDecoderState, output: usize) -> Result<(), Refusal>
     ensures { result ≡ first_of (plc_lost_rows s.now output) }
 {
@@ -255,6 +266,7 @@ pub fn plc_lost(s: &SilkDecoderState, output: usize) -> Result<(), Refusal>
     loss_rows(s, s.fs_khz, s.nb_subfr, output)
 }
 
+#[tactic(auto, using(decoder::proofs::Tests::words, refusal::proofs::Clear::append_err, refusal::proofs::Clear::append_ok), unfolding(refusal::specs::First::first_of))]
 pub fn glue(s: &SilkDecoderState, lent: usize, n: usize) -> Result<(), Refusal>
     ensures { result ≡ first_of (glue_rows s.now lent n) }
 {
@@ -271,9 +283,6 @@ pub fn cng(
     ensures { result ≡ first_of (cng_rows s.now c.now lent n) }
 {
     state_rows(s)?;
-    refuse_if(
-        equals(s.loss_cnt, 0) & gain_row(s.nb_subfr, c),
-        Refusal::Gain,
-    )?;
+    refuse_if((s.loss_cnt == 0) & gain_row(s.nb_subfr, c), Refusal::Gain)?;
     refuse_if(length_row(lent, n), Refusal::Length)
 }

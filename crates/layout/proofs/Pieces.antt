@@ -4,15 +4,11 @@ use mathlib.Core.Path.{◌≡◌, ap, ◌∙◌}
 use mathlib.Core.List.{List, ◌++◌, append_assoc}
 use native.Mathlib.Omega.{arith}
 use native.Mathlib.Nat.{zero-add}
-use lib.ListN.{length, take, drop, length-append, length-drop, get_or-append}
+use lib.ListN.{length, take, drop, length-append, get_or-append}
 use lib.Seq.{take-append_seam, drop_at, drop-append-add, drop-drop, get_or-take, length-take-le}
 use lib.IntN.{ℤ, pos}
 use Rattle.sigproc.specs.Place.{put_at}
 use Rattle.layout.specs.Layout.{part, one}
-
--- a part of n numbers has n
-pub length_part : (xs : List ℤ) (at n : ℕ) → at + n ≤ length xs → length (take n (drop at xs)) ≡ n
-length_part xs at n h = length-take-le n (drop at xs) (simp length-drop (omega arith))
 
 -- a list stored from place `at` to m: what is read before it, there, and behind it
 module _ (d s : List ℤ) (at m : ℕ) (e : at + length s ≡ m) (h : m ≤ length d) where

@@ -9,12 +9,12 @@ use lib.Dec.{ltb}
 use lib.IntN.{ℤ}
 use lib.ListN.{length, drop}
 use mir.Syntax.{Width, w16, w32}
+use Rattle.word.proofs.Fits.{AllFit, take-fits, drop-fits}
+use Rattle.word.proofs.Lists.{length_part}
 use Rattle.word.proofs.Rows.{neither}
 use Rattle.decoder.specs.Typed.{Words, Typed, TypedControl, TypedRows}
-use Rattle.decoder.proofs.Types.{AllFit, take-fits, drop-fits}
 use Rattle.layout.specs.Layout.{WORDS, HALVES, part, short_state, cng_in, plc_in, settings_in, state_in}
 use Rattle.layout.specs.Frame.{FRAME, COEFS, short_frame, short_call, control_in, rows_in}
-use Rattle.layout.proofs.Pieces.{length_part}
 
 pub part-words : {w : Width} (xs : List ℤ) (at n : ℕ) → AllFit w xs → at + n ≤ length xs → Words w n (part xs at n)
 part-words xs at n f h = record { count = length_part xs at n h; fits = take-fits n (drop at xs) (drop-fits at xs f) }

@@ -27,7 +27,7 @@ pub fn short_call(words: usize, halves: usize, frame: usize, coefs: usize) -> bo
     short_frame(words, halves, frame) || coefs < COEFS
 }
 
-// A number of 8 bits; one outside them counts as -1, which row 5 refuses. Three places read a number so, and the definition has this name.
+// A number of 8 bits, as three places read it; one outside them counts as -1, which row 5 refuses.
 #[tactic(auto, unfolding(crate::specs::Frame::small))]
 fn small(z: i32) -> i8
     ensures { result ≡ small z }
@@ -174,7 +174,7 @@ impl FrameSlices<'_> {
 
     // The lags and the taps of a new description stored.
     #[tactic(auto, unfolding(crate::specs::Frame::with_taps))]
-    pub fn put(&mut self, c: &SilkDecoderControl)
+    pub fn put_lags_and_taps(&mut self, c: &SilkDecoderControl)
         ensures stored { (self.new.numbers.now ≡ with_lags self.old.numbers.now c.now) × (self.new.coefs.now ≡ with_taps self.old.coefs.now c.now) }
         ensures same_reference { SameFrame self.old self.new }
     {

@@ -20,7 +20,7 @@ pub const WORDS: usize = 698;
 
 pub const HALVES: usize = 535;
 
-// What is put is what is read: a claim, with no code.
+// What is put is what is read.
 pub fn put_is_read()
     ensures { StateStored × FrameStored }
 {}
@@ -121,5 +121,5 @@ pub fn put_answer(a: &Answer, state: &mut StateSlices<'_>, frame: &mut FrameSlic
     ensures same_reference { SameState state.old state.new × SameFrame frame.old frame.new }
 {
     state.put(&a.state);
-    frame.put(&a.control);
+    frame.put_lags_and_taps(&a.control);
 }

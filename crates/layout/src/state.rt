@@ -114,15 +114,20 @@ pub struct StateSlices<'a> {
 impl StateSlices<'_> {
     ghost use Rattle.layout.specs.Lent.{SameState};
 
+    pub fn numbers(&self) -> StateNumbers<'_>
+        ensures { (result.words.now ≡ self.now.words.now) × (result.halves.now ≡ self.now.halves.now) }
+    {
+        StateNumbers {
+            words: self.words,
+            halves: self.halves,
+        }
+    }
+
     // The state that they hold.
     pub fn state(&self) -> SilkDecoderState
         ensures { result ≡ state_in self.now.words.now self.now.halves.now }
     {
-        let numbers = StateNumbers {
-            words: self.words,
-            halves: self.halves,
-        };
-        numbers.state()
+        self.numbers().state()
     }
 
     // A state stored.

@@ -8,7 +8,7 @@ use native.Mathlib.Nat.{mul-le-mul_left}
 use borrow.Author.Tests.{ltb-true, ltb-false}
 use lib.Dec.{ltb}
 use lib.IntN.{ℤ, pos}
-use lib.ListN.{length, get_or, take, drop, length-append, length-drop}
+use lib.ListN.{length, get_or, take, drop, length-append}
 use lib.Seq.{take_at, drop_at, take-add, drop-drop, get_or-drop, length-take-le, take_all}
 use mir.Syntax.{Width}
 use mir.Val.{SFits}
@@ -19,7 +19,7 @@ use Rattle.std.proofs.lemmas.List.{take_more}
 use Rattle.std.proofs.lemmas.List.Concat.{flat_map-append}
 use Rattle.word.specs.Int.{wrap}
 use Rattle.word.specs.Tabulate.{tabulate}
-use Rattle.word.proofs.Lists.{get_or-tabulate, length-tabulate, tabulate_cong, tabulate-get_or}
+use Rattle.word.proofs.Lists.{length_part, get_or-tabulate, length-tabulate, tabulate_cong, tabulate-get_or}
 use Rattle.le.specs.Bytes.{Bytes, bytes_of, bytes_in, number_of, unsigned_at, signed_at, words_by, words_at, packed, packed_by, with_bytes}
 use Rattle.le.proofs.Numbers.{length-bytes_of, wrap_of_bytes, bytes_of-wrap}
 use Rattle.le.proofs.Places.{with-more}
@@ -34,9 +34,6 @@ take-bytes (suc n) [] h i = omega arith
 take-bytes (suc n) (x ∷ xs) h zero = h 0
 take-bytes (suc n) (x ∷ xs) h (suc i) = take-bytes n xs (λ j. h (suc j)) i
 
-part_length : (n at : ℕ) (b : List ℕ) → at + n ≤ length b → length (take n (drop at b)) ≡ n
-part_length n at b h = length-take-le n (drop at b) (rw (length-drop at b) (omega arith))
-
 -- a word that is written at a place is read there
 pub signed_back : (w : Width) (z : ℤ) (b : List ℕ) (at : ℕ) → SFits w z → take (bytes_in w) (drop at b) ≡ bytes_of (bytes_in w) z → signed_at w b at ≡ z
 unfolding signed_at unsigned_at
@@ -46,7 +43,7 @@ signed_back w z b at f e = ap (λ (c : List ℕ). wrap w (pos (number_of c))) e 
 pub signed-again : (w : Width) (b : List ℕ) (at : ℕ) → Bytes b → at + bytes_in w ≤ length b → bytes_of (bytes_in w) (signed_at w b at) ≡ take (bytes_in w) (drop at b)
 unfolding signed_at unsigned_at
 signed-again w b at t h =
-    bytes_of-wrap w (take (bytes_in w) (drop at b)) (take-bytes (bytes_in w) (drop at b) (drop-bytes at b t)) (part_length (bytes_in w) at b h)
+    bytes_of-wrap w (take (bytes_in w) (drop at b)) (take-bytes (bytes_in w) (drop at b) (drop-bytes at b t)) (length_part b at (bytes_in w) h)
 
 pub length-packed : (w : Width) (xs : List ℤ) (n : ℕ) → length (packed w xs n) ≡ bytes_in w * n
 unfolding packed

@@ -1,14 +1,14 @@
 -- Bytes at a place of a list: read by index, and stored.
-use Prim.Native.Nat.{ℕ, suc, ◌+◌, ◌*◌, ◌≤◌, ◌<◌}
+use Prim.Native.Nat.{ℕ, suc, ◌+◌, ◌*◌, ◌≤◌}
 use mathlib.Core.Path.{◌≡◌, refl, sym, ap, ◌∙◌}
 use mathlib.Core.Bool.{Bool, true, false}
 use borrow.Author.Tests.{eqb-true, eq-eqb, ne_eqb}
 use lib.Dec.{eqb}
-use mathlib.Core.List.{List, [], ◌∷◌, ◌++◌, append_assoc, append-nil}
+use mathlib.Core.List.{List, [], ◌++◌, append_assoc, append-nil}
 use native.Mathlib.Omega.{arith}
 use native.Mathlib.Numerals.{add-one}
-use lib.ListN.{length, get_or, set, take, drop, length-append, length-drop, take-append-drop, drop_of_length-le}
-use lib.Seq.{drop-cons, drop-drop, take_at, take-append-add, drop-append-add, length-take-le, set_split, append_snoc}
+use lib.ListN.{length, get_or, take, drop, length-append, length-drop, take-append-drop, drop_of_length-le}
+use lib.Seq.{drop-cons, drop-drop, take_at, take-append-add, drop-append-add, length-take-le}
 use Rattle.le.specs.Bytes.{number_of, unsigned_at, with_bytes}
 
 -- either of two numbers is the other

@@ -43,7 +43,7 @@ impl Word for i8 {
     }
 
     fn put(self, to: &mut [u8], at: usize) {
-        put_bytes(to, at, &self.to_le_bytes());
+        put_bytes(to, at, &i8::to_le_bytes(self));
     }
 
     ghost sized = { λ _. refl };
@@ -63,7 +63,7 @@ impl Word for u16 {
     }
 
     fn put(self, to: &mut [u8], at: usize) {
-        put_bytes(to, at, &self.to_le_bytes());
+        put_bytes(to, at, &u16::to_le_bytes(self));
     }
 
     ghost sized = { λ _. refl };
@@ -103,7 +103,7 @@ impl Word for u32 {
     }
 
     fn put(self, to: &mut [u8], at: usize) {
-        put_bytes(to, at, &self.to_le_bytes());
+        put_bytes(to, at, &u32::to_le_bytes(self));
     }
 
     ghost sized = { λ _. refl };
@@ -123,7 +123,7 @@ impl Word for i32 {
     }
 
     fn put(self, to: &mut [u8], at: usize) {
-        put_bytes(to, at, &self.to_le_bytes());
+        put_bytes(to, at, &i32::to_le_bytes(self));
     }
 
     ghost sized = { λ _. refl };

@@ -1,5 +1,6 @@
 -- The numbers of a line of text.
 use Rattle.std.specs.Prelude.{ℕ, ◌+◌, ◌-◌, Bool, false, cond, List, eqb, ltb, ℤ, pos, neg_ℤ, ◌+ℤ◌, ◌*ℤ◌, set, replicate, Option, Some, None, unwrap_or}
+use Rattle.std.specs.List.{fold}
 use Rattle.word.specs.Int.{wrap32}
 use Rattle.line.specs.declared.Line.{Line}
 
@@ -20,12 +21,12 @@ stored l value negative =
     (begun l.row l.count negative)
 
 -- what a byte that is no digit leaves, of the number that is being read
-unfoldable pub left_by : Line → Bool → Option ℤ → Line
-left_by l negative (Some value) = stored l value negative
-left_by l negative None = begun l.row l.count negative
+unfoldable pub value_ended : Line → Bool → Option ℤ → Line
+value_ended l negative (Some value) = stored l value negative
+value_ended l negative None = begun l.row l.count negative
 
 unfoldable pub ended : Line → Bool → Line
-ended l negative = left_by l negative l.value
+ended l negative = value_ended l negative l.value
 
 unfoldable pub digit : Line → ℕ → Line
 digit l d =
@@ -39,3 +40,7 @@ digit l d =
 -- a digit, 48 to 57, goes on with a number; every other byte ends one, and a minus sign, 45, makes the next one negative
 unfoldable pub fed : Line → ℕ → Line
 fed l b = cond (ltb b 48) (ended l (eqb b 45)) (cond (ltb 57 b) (ended l false) (digit l (b - 48)))
+
+-- a line's bytes, one after another
+unfoldable pub line_of : List ℕ → Line
+line_of bytes = fold fed blank bytes

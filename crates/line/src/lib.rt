@@ -1,9 +1,10 @@
 // The numbers of a line of text, read byte by byte; all else in it is passed over.
+// Apart from `coefficients`: here any line counts and a number is cut to 32 bits, there a line is bad in which not all is a number of 16 bits.
 // Inner: every function.
 #![tactic(auto)]
 
 ghost use Rattle.std.specs.Prelude.{◌≡◌};
-ghost use Rattle.line.specs.Line.{blank, signed, begun, stored, ended, digit, fed};
+ghost use Rattle.line.specs.Line.{blank, signed, begun, stored, ended, digit, fed, line_of};
 
 use word::{add32, mul32, neg32};
 
@@ -60,7 +61,7 @@ fn stored(l: Line, value: i32, negative: bool) -> Line
 }
 
 // The byte that is read is no digit, and ends the number before it, if there is one.
-#[tactic(auto, unfolding(crate::specs::Line::ended, crate::specs::Line::left_by))]
+#[tactic(auto, unfolding(crate::specs::Line::ended, crate::specs::Line::value_ended))]
 fn ended(l: Line, negative: bool) -> Line
     ensures { result ≡ ended l negative }
 {
@@ -91,4 +92,12 @@ pub fn fed(l: Line, b: u8) -> Line
         b'-' => ended(l, true),
         _ => ended(l, false),
     }
+}
+
+// The numbers in a line's bytes.
+#[tactic(auto, unfolding(crate::specs::Line::line_of))]
+pub fn line_of(bytes: &[u8]) -> Line
+    ensures { result ≡ line_of bytes.now }
+{
+    bytes.iter().fold(blank(), |l, b| fed(l, *b))
 }

@@ -30,7 +30,7 @@ use Rattle.slices.specs.Slices.{Slices, leaves}
 use Rattle.slices.specs.Whole.{played_on, answered}
 use Rattle.post.specs.Calls.{called}
 use Rattle.post.specs.Stages.{call_short, frame_call}
-use Rattle.linked.specs.Linked.{Held, state_of, Linked, lent_to, call_of, brought_by, held_in, left_by, losses_after}
+use Rattle.linked.specs.Linked.{Held, state_of, Linked, lent_to, call_of, brought_by, held_in, held_left, losses_after}
 use Rattle.linked.specs.Claims.{TypedLinked}
 
 -- ---- an exported call: j is what the call on the state answers, and `left` the slices of its value
@@ -96,7 +96,7 @@ module _ (m : Held) (x : Linked) where
       beside k Lost = tt
 
   -- one that answers 0
-  pub frame-played : (call_of m x).answer ≡ pos 0 → (call_short (lent_to m x) ≡ false) × (code_of (frame_refusal (state_of m) (brought_by x)) ≡ 0) × (left_by (call_of m x) ≡ stored_in m (state_after (state_of m) (brought_by x)))
+  pub frame-played : (call_of m x).answer ≡ pos 0 → (call_short (lent_to m x) ≡ false) × (code_of (frame_refusal (state_of m) (brought_by x)) ≡ 0) × (held_left (call_of m x) ≡ stored_in m (state_after (state_of m) (brought_by x)))
   unfolding frame_call answered played_on state_after frame_answer
   frame-played z =
       let s = state_of m in
@@ -106,7 +106,7 @@ module _ (m : Held) (x : Linked) where
       let new = (λ i. state_left s (answer (accepted (frame_refusal s b) k.0 i) (frame_outcome s b))) ∙ ap (λ (a : Answer). a.state) k.1 in
       (p.long, k.0, ap held_in p.after ∙ sym (ap (stored_in m) new))
 
-  frame-unplayed : eq_ℤ (call_of m x).answer (pos 0) ≡ false → left_by (call_of m x) ≡ m
+  frame-unplayed : eq_ℤ (call_of m x).answer (pos 0) ≡ false → held_left (call_of m x) ≡ m
   unfolding frame_call answered
   frame-unplayed z = ap held_in (unplayed _ _ _ _ z)
 
@@ -116,22 +116,22 @@ module _ (m : Held) (x : Linked) where
 
   module _ (t : TypedLinked x) (g : GoodHeld m) where
     -- one that answers 0 leaves what the whole-frame call leaves
-    pub frame-left : (call_of m x).answer ≡ pos 0 → GoodHeld (left_by (call_of m x)) × (state_of (left_by (call_of m x)) ≡ state_after (state_of m) (brought_by x))
+    pub frame-left : (call_of m x).answer ≡ pos 0 → GoodHeld (held_left (call_of m x)) × (state_of (held_left (call_of m x)) ≡ state_after (state_of m) (brought_by x))
     frame-left z =
         let p = frame-played z in
-        stored-good m (left_by (call_of m x)) (state_after (state_of m) (brought_by x)) p.2 g.long (keeps (state_of m) (brought_by x) g.good (brought_typed t p.0))
+        stored-good m (held_left (call_of m x)) (state_after (state_of m) (brought_by x)) p.2 g.long (keeps (state_of m) (brought_by x) g.good (brought_typed t p.0))
 
     -- an invariant of the state and of the losses that count goes on if the whole-frame call keeps it
     pub goes_on : (R : SilkDecoderState → Losses → Type 0) (l : Losses) → R (state_of m) l
         → (TypedCall (brought_by x) → R (state_after (state_of m) (brought_by x)) (count_after (state_of m) (brought_by x) l))
-        → GoodHeld (left_by (call_of m x)) × R (state_of (left_by (call_of m x))) (losses_after m x l)
+        → GoodHeld (held_left (call_of m x)) × R (state_of (held_left (call_of m x))) (losses_after m x l)
     unfolding losses_after count_after
     goes_on R l r f = go (eq_ℤ (call_of m x).answer (pos 0)) refl
       where
         next : Losses
         next = counted (brought_by x).frame (held_sum (state_of m) (brought_by x)) l
 
-        go : (b : Bool) → eq_ℤ (call_of m x).answer (pos 0) ≡ b → GoodHeld (left_by (call_of m x)) × R (state_of (left_by (call_of m x))) (cond b next l)
+        go : (b : Bool) → eq_ℤ (call_of m x).answer (pos 0) ≡ b → GoodHeld (held_left (call_of m x)) × R (state_of (held_left (call_of m x))) (cond b next l)
         go true e =
             let z = eq_ℤ_true (call_of m x).answer (pos 0) e in
             let p = frame-played z in

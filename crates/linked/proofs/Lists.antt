@@ -33,7 +33,7 @@ use Rattle.layout.specs.Layout.{part, one, state_in, plc_in}
 use Rattle.layout.proofs.Slices.{state_typed, state_long}
 use Rattle.stages.specs.Stages.{set_up_on}
 use Rattle.post.specs.Stages.{set_up_call}
-use Rattle.linked.specs.Linked.{Held, state_of, Linked, brought_by, held_in, At, linked_from, call_of, left_by, losses_after}
+use Rattle.linked.specs.Linked.{Held, state_of, Linked, brought_by, held_in, At, linked_from, call_of, held_left, losses_after}
 use Rattle.linked.specs.Claims.{TypedLinked, FromSetUp, FromAccepted, slices_after, LostPlayed, concealed_in, gain_in, last_frame, gain_held, sum_held, CallQuiet, SlicesQuiet, LinkedHistory, LinkedLosses, LinkedAfter, LinkedQuiet, LinkedSooner}
 use Rattle.linked.proofs.Calls.{played, GoodHeld, stored-good, frame-played, frame_not_for_state, frame-left, goes_on}
 
@@ -50,7 +50,7 @@ module _ (R : SilkDecoderState → Losses → Type 0) (step : (s : SilkDecoderSt
   along m l g r none = none
   along m l g r (then {x} t ts) =
       let k = goes_on m x t g R l r (step (state_of m) l (brought_by x) r) in
-      then (record { held = g; typed = t; holds = r }) (along (left_by (call_of m x)) (losses_after m x l) k.0 k.1 ts)
+      then (record { held = g; typed = t; holds = r }) (along (held_left (call_of m x)) (losses_after m x l) k.0 k.1 ts)
 
 -- ---- where a list starts
 set_up-held : (m : Held) → FromSetUp m → GoodHeld m × Counts (state_of m) no_losses

@@ -17,7 +17,7 @@ use Rattle.layout.specs.Frame.{rate_in, subframes_in}
 use Rattle.slices.specs.Slices.{slices}
 use Rattle.post.specs.Calls.{Called}
 use Rattle.post.specs.Stages.{set_up_call}
-use Rattle.linked.specs.Linked.{Held, state_of, Linked, call_of, brought_by, left_by, At, linked_from}
+use Rattle.linked.specs.Linked.{Held, state_of, Linked, call_of, brought_by, held_left, At, linked_from}
 
 -- ---- which lists
 -- every number of a slice is one of its type
@@ -39,7 +39,7 @@ pub record FromSetUp (m : Held) : Type 0 where
   pub settings : Settings
   pub lent : Held
   pub answered : (set_up_on rate subframes settings lent).answer ≡ pos 0
-  pub left : m ≡ left_by (set_up_on rate subframes settings lent)
+  pub left : m ≡ held_left (set_up_on rate subframes settings lent)
 
 -- slices that hold an accepted state
 pub record FromAccepted (m : Held) : Type 0 where
@@ -55,7 +55,7 @@ module _ (t : At) where
 
   -- the slices after the call
   abbrev pub slices_after : Held
-  slices_after = left_by call_at
+  slices_after = held_left call_at
 
   -- it is a lost frame, and answers 0
   abbrev pub LostPlayed : Type 0

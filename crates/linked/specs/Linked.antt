@@ -52,8 +52,8 @@ abbrev pub held_in : Slices → Held
 held_in m = record { words = m.words; halves = m.halves }
 
 -- as the call leaves them
-abbrev pub left_by : Called → Held
-left_by k = held_in k.after
+abbrev pub held_left : Called → Held
+held_left k = held_in k.after
 
 -- the losses that count after a call: only an answer of 0 counts or ends the row, a refusal and −1 do neither
 unfoldable pub losses_after : Held → Linked → Losses → Losses
@@ -69,4 +69,4 @@ pub record At : Type 0 where
 unfoldable pub linked_from : Held → Losses → List Linked → List At
 linked_from m l [] = []
 linked_from m l (x ∷ xs) =
-    record { held = m; call = x; losses = l } ∷ linked_from (left_by (call_of m x)) (losses_after m x l) xs
+    record { held = m; call = x; losses = l } ∷ linked_from (held_left (call_of m x)) (losses_after m x l) xs

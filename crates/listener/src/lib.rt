@@ -25,17 +25,19 @@ pub struct Counts {
     pub squelched: u32,
 }
 
+#[tactic(auto, unfolding(crate::specs::Link::leaving))]
 fn leaving(k: Link, good: bool) -> u32
     ensures { result ≡ leaving k good }
 {
     if good {
-        k.leave_good as u32
+        u32::from(k.leave_good)
     } else {
-        k.leave_bad as u32
+        u32::from(k.leave_bad)
     }
 }
 
 // The state after a draw.
+#[tactic(auto, using(macros::proofs::Kept::words), unfolding(crate::specs::Link::turned))]
 fn turned(k: Link, x: i32, good: bool) -> bool
     ensures { result ≡ turned k (unsigned x) good }
 {
@@ -54,6 +56,7 @@ fn row_after(good: bool, losses: u32) -> u32
     if good { 0 } else { losses + 1 }
 }
 
+#[tactic(auto, unfolding(crate::specs::Heard::silent))]
 fn silent(squelch: u32, losses: u32) -> bool
     requires { losses < 4294967295 }
     ensures { result ≡ silent squelch losses }

@@ -14,10 +14,9 @@ use Rattle.refusal.specs.First.{Row, ◌gives◌, first_of}
 use Rattle.refusal.specs.Refusals.{code_of}
 use Rattle.refusal.specs.declared.Refusal.TheVariants.{Line}
 use Rattle.refusal.proofs.Clear.{passed, append_ok}
-use Rattle.shape.specs.Shape.{is_rate, is_count, frame_length}
+use Rattle.shape.specs.Shape.{frame_length}
 use Rattle.decoder.specs.Reshape.{reshaped_by, reshaped}
 use Rattle.decoder.specs.Rows.{coming_rows}
-use Rattle.decoder.specs.Settings.{settings_fit}
 use Rattle.decoder.specs.SetUp.{plc_default, silk_default, state_from}
 use Rattle.decoder.specs.declared.Settings.{Settings}
 use Rattle.decoder.specs.declared.SilkDecoderState.{SilkDecoderState}

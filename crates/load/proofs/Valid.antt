@@ -19,6 +19,7 @@ use Rattle.decoder.specs.Signals.{signal_of, signal_number, is_type, is_voiced}
 use Rattle.decoder.specs.Ranges.{within, all_within}
 use Rattle.decoder.specs.Typed.{Words}
 use Rattle.decoder.proofs.Between.{Between, between-back, only_if_lem, all_between_back}
+use Rattle.decoder.proofs.Built.{wider}
 use Rattle.judge.specs.Taps.{tap_sum, taps_fit}
 use Rattle.judge.specs.Rows.{signal_row, gain_row, lag_row, taps_row, line_row, description_rows}
 use Rattle.generator.specs.Draws.{drawn, draw_at}
@@ -36,9 +37,6 @@ pick-between n s x k h =
 
 picks-between : (n s : ℕ) (x : ℤ) (at m i : ℕ) → 0 < s → i < m → Between n (n + s - 1) (get_or (picks (pos n) s x at m) i (pos 0))
 picks-between n s x at m i h l = subst (Between n (n + s - 1)) (sym (get_or-picks (pos n) s x at m i l)) (pick-between n s x (at + i) h)
-
-wide : {a b c d : ℕ} {z : ℤ} → c ≤ a → b ≤ d → Between a b z → Between c d z
-wide {a} {b} {c} {d} l h k = record { is = k.is; low = omega (arith, l, k.low); high = omega (arith, h, k.high) }
 
 type_is : (z : ℤ) → Between 0 2 z → is_type (signal_of z) ≡ true
 unfolding is_type signal_of signal_number within
@@ -112,7 +110,7 @@ module _ (x : ℤ) (p : Shape) (few : p.subframes ≤ 4) (most : order_of p.rate
   lag-clear =
       no_row _ (only_if_lem (is_voiced (params_of x).signal) (all_within (pos (2 * p.rate)) (pos (18 * p.rate)) (picks (pos (2 * p.rate)) (16 * p.rate + 1) x 5 4) p.subframes) (λ v.
       all_between_back (2 * p.rate) (18 * p.rate) (picks (pos (2 * p.rate)) (16 * p.rate + 1) x 5 4) p.subframes (λ i l.
-      wide (omega arith) (omega arith) (picks-between (2 * p.rate) (16 * p.rate + 1) x 5 4 i (omega arith) (omega (arith, few, l))))))
+      wider (2 * p.rate) (18 * p.rate) (omega arith) (omega arith) (picks-between (2 * p.rate) (16 * p.rate + 1) x 5 4 i (omega arith) (omega (arith, few, l))))))
 
   taps-clear : taps_row p.subframes (params_of x) (control_of x p.rate) ≡ false
   unfolding taps_row control_of

@@ -3,7 +3,7 @@
 
 use checksum::sum;
 use input::read_full;
-use line::{Line, blank, fed};
+use line::{Line, line_of};
 use load::{before, control_of, is_received, lines_of, params_of, pulses_of, rows_of};
 use post_load::{post_load_frame, post_load_leap, post_load_undoing};
 use std::io;
@@ -36,7 +36,7 @@ impl TryFrom<i32> for Asked {
 
 // A count of draws, of which a line has the high and the low 32 bits.
 fn draws(high: i32, low: i32) -> u64 {
-    4294967296 * (bits32(high) as u64) + (bits32(low) as u64)
+    4294967296 * u64::from(bits32(high)) + u64::from(bits32(low))
 }
 
 fn sum_small(x: i32) -> i32 {
@@ -94,21 +94,14 @@ fn answered(rt: &impl Print, l: Line) -> io::Result<()> {
     }
 }
 
-fn run(rt: &impl Print, text: &[u8]) -> io::Result<()> {
-    let mut l = blank();
-    for b in text {
-        l = fed(l, *b);
-        if *b == b'\n' {
-            answered(rt, l)?;
-            l = blank();
-        }
-    }
-    Ok(())
-}
-
-// At most 65,536 bytes are read.
+// At most 65,536 bytes are read, and what follows the last newline is no line.
 fn main(rt: HostRuntime) -> io::Result<()> {
     let mut text = [0u8; 65536];
     let n = read_full(&mut rt.stdin(), &mut text)?;
-    run(&rt, &text[..n])
+    for bytes in text[..n].split_inclusive(|b| *b == b'\n') {
+        if bytes.ends_with(b"\n") {
+            answered(&rt, line_of(bytes))?;
+        }
+    }
+    Ok(())
 }

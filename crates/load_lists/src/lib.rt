@@ -1,4 +1,4 @@
-// Lists of a load's frames. The claims have no code: each is a contract.
+// Lists of a load's frames.
 #![tactic(auto)]
 
 ghost use Rattle.load_lists.specs.Claims.{LoadPlayed, AnyLosses};

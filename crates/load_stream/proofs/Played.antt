@@ -10,10 +10,10 @@ use Rattle.decoder.specs.declared.Answer.{Answer}
 use Rattle.decoder.specs.declared.SilkDecoderState.{SilkDecoderState}
 use Rattle.decode_frame.specs.Answer.{frame_refusal, frame_outcome, frame_answer, frame_output}
 use Rattle.refusal.specs.Refusals.{answered}
-use Rattle.load_stream.specs.declared.Heard.{Heard}
+use Rattle.record.specs.declared.Sound.{Sound}
 use Rattle.load_stream.specs.Stream.{call, heard_of}
 
-abbrev pub with_samples : List ℤ → Result Answer Refusal → Result Heard Refusal
+abbrev pub with_samples : List ℤ → Result Answer Refusal → Result Sound Refusal
 with_samples samples (Ok a) = Ok (record { state = a.state; samples = samples })
 with_samples samples (Err r) = Err r
 

@@ -10,7 +10,7 @@ use Rattle.decode_frame.specs.Answer.{frame_refusal, frame_outcome, frame_output
 use Rattle.le.specs.Bytes.{bytes_of}
 use Rattle.record.specs.Recorded.{Recorded, received, lost, record_bytes}
 use Rattle.load.specs.Load.{is_received, params_of, control_of, rows_of, lines_of, pulses_of, frame_of}
-use Rattle.load_stream.specs.declared.Heard.{Heard}
+use Rattle.record.specs.declared.Sound.{Sound}
 
 -- the first 16 bytes of a stream of n frames (docs/STREAMS.md)
 unfoldable pub header_of : ℤ → ℤ → ℤ → List ℕ
@@ -31,6 +31,6 @@ module _ (s : SilkDecoderState) (rate subframes x : ℤ) where
       frame_call rate subframes (frame_of x) (control_of x (rate_of rate)) (rows_of x) (lines_of x) (pulses_of x) (replicate 320 (pos 0))
 
   -- the new state and the samples, where it is played
-  unfoldable pub heard_of : Result Heard Refusal
+  unfoldable pub heard_of : Result Sound Refusal
   heard_of =
       answered (frame_refusal s call) (record { state = (frame_outcome s call).state; samples = frame_output s call })

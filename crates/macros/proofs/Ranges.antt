@@ -7,13 +7,14 @@ use borrow.Author.Tests.{leb-false, lt-leb}
 use lib.Dec.{leb, lit<}
 use lib.IntN.{ℤ, pos, negsuc, nat_abs, neg_ℤ, ◌*ℤ◌}
 use lib.Signed.{lt_z, le_z}
-use mir.Syntax.{Width, w16, w32, w64}
+use mir.Syntax.{w16, w32, w64}
 use mir.Val.{SFits}
 use Rattle.word.specs.Int.{mod_ℤ, wrap64, eq_ℤ}
 use Rattle.word.proofs.Mod.{mod_ℤ_lt}
 use Rattle.word.proofs.Range.{mul-fits, floor_div-fits}
 use Rattle.word.proofs.Words.{wrap-fits}
-use Rattle.word.proofs.Order.{sat32-fits}
+use Rattle.word.proofs.Order.{cond_fits, sat32-fits}
+use Rattle.word.proofs.Fits.{zero_fits}
 use Rattle.macros.specs.Fixed.{smulww, smulwb, smulbb, smultt, smmul, smlaww, smlawb, add_lshift32, lshift_sat32, rand, round_shift, rshift_round, rshift_round64, frac_q7, sqrt_approx}
 use Rattle.macros.specs.Quotient.{shift_down, second_inverse, inverse32_varq, normal_quotient, div32_varq}
 use Rattle.macros.proofs.Rounding.{Up, up_fits, round_fits, round64_is}
@@ -62,14 +63,6 @@ pub frac_q7_lt : (x : ℤ) → frac_q7 x < 128
 unfolding frac_q7
 frac_q7_lt x = mod_ℤ_lt (pos _) 128 (lit< tt)
 
-zero_fits : SFits w32 (pos 0)
-zero_fits = record { sfits = lit< tt }
-
--- one of two numbers that fit
-pub cond_fits : {w : Width} (t : Bool) {a b : ℤ} → SFits w a → SFits w b → SFits w (cond t a b)
-cond_fits true h k = h
-cond_fits false h k = k
-
 pub rshift_round-fits : (a s : ℤ) → SFits w32 a → SFits w32 (rshift_round a s)
 unfolding rshift_round round_shift
 rshift_round-fits a (negsuc n) h = wrap-fits w32 _
@@ -77,7 +70,7 @@ rshift_round-fits a (pos zero) h = wrap-fits w32 _
 rshift_round-fits a (pos (suc m)) h = rw (lt-leb (suc m) 0 (omega arith)) (go (leb 31 (suc m)) refl)
   where
     go : (t : Bool) → leb 31 (suc m) ≡ t → SFits w32 (cond t (pos 0) (round_shift a (suc m)))
-    go true e = zero_fits
+    go true e = zero_fits w32
     go false e =
         let k = leb-false 31 (suc m) e in
         let i : suc m - 1 ≡ m = omega arith in
@@ -93,12 +86,12 @@ rshift_round64-fits a s h = go (le_z s (pos 0)) (wrap64 (a *ℤ pos (2 ^ mod_ℤ
 
 pub sqrt_approx-fits : (x : ℤ) → SFits w32 (sqrt_approx x)
 unfolding sqrt_approx
-sqrt_approx-fits x = cond_fits (le_z x (pos 0)) zero_fits (smlawb-fits _ _ _)
+sqrt_approx-fits x = cond_fits (le_z x (pos 0)) (zero_fits w32) (smlawb-fits _ _ _)
 
 shift_down-fits : (r s : ℤ) → SFits w32 r → SFits w32 (shift_down r s)
 unfolding shift_down
 shift_down-fits r s h =
-    cond_fits (le_z s (pos 0)) (lshift_sat32-fits r (neg_ℤ s)) (cond_fits (lt_z s (pos 32)) (floor_div-fits r (2 ^ mod_ℤ s 32) h) zero_fits)
+    cond_fits (le_z s (pos 0)) (lshift_sat32-fits r (neg_ℤ s)) (cond_fits (lt_z s (pos 32)) (floor_div-fits r (2 ^ mod_ℤ s 32) h) (zero_fits w32))
 
 pub second_inverse-fits : (n i : ℤ) → SFits w32 (second_inverse n i)
 unfolding second_inverse

@@ -12,21 +12,21 @@ ghost use Rattle.macros.specs.Quotient.{headroom, shift_up, shift_down, normal, 
 
 use word::{
     abs32, add32, bits32, low_bit, low16, low32, mul16, mul32, neg32, sat16, sat32, shl32, shl64,
-    shr32, shr64, smull, sub32, sum32, sum64, wide, wide16,
+    shr32, shr64, sub32, sum32, sum64, wide, wide16,
 };
 
 #[tactic(auto, using(crate::proofs::Kept::words), unfolding(crate::specs::Fixed::smulww))]
 pub fn silk_smulww(a: i32, b: i32) -> i32
     ensures { result ≡ smulww a b }
 {
-    low32(shr64(smull(a, b), 16))
+    low32(shr64(silk_smull(a, b), 16))
 }
 
 #[tactic(auto, using(crate::proofs::Kept::words), unfolding(crate::specs::Fixed::smulwb))]
 pub fn silk_smulwb(a: i32, b: i32) -> i32
     ensures { result ≡ smulwb a b }
 {
-    low32(shr64(smull(a, wide16(low16(b))), 16))
+    low32(shr64(silk_smull(a, wide16(low16(b))), 16))
 }
 
 #[tactic(auto, using(crate::proofs::Kept::words), unfolding(crate::specs::Fixed::smulbb))]
@@ -43,18 +43,17 @@ pub fn silk_smultt(a: i32, b: i32) -> i32
     mul32(shr32(a, 16), shr32(b, 16))
 }
 
-#[tactic(auto, using(crate::proofs::Kept::words))]
 pub fn silk_smull(a: i32, b: i32) -> i64
     ensures { result ≡ a *ℤ b }
 {
-    smull(a, b)
+    i64::from(a) * i64::from(b)
 }
 
 #[tactic(auto, using(crate::proofs::Kept::words), unfolding(crate::specs::Fixed::smmul))]
 pub fn silk_smmul(a: i32, b: i32) -> i32
     ensures { result ≡ smmul a b }
 {
-    low32(shr64(smull(a, b), 32))
+    low32(shr64(silk_smull(a, b), 32))
 }
 
 #[tactic(auto, using(crate::proofs::Kept::words), unfolding(crate::specs::Fixed::smlaww))]
@@ -99,18 +98,18 @@ pub fn silk_add_sat16(a: i16, b: i16) -> i16
     sat16(sum32(a, b))
 }
 
-#[tactic(auto, using(crate::proofs::Kept::words))]
+#[tactic(auto, using(word::proofs::Words::kept, word::proofs::Names::min_is))]
 pub fn silk_min_32(a: i32, b: i32) -> i32
     ensures { result ≡ min_ℤ a b }
 {
-    word::min32(a, b)
+    a.min(b)
 }
 
-#[tactic(auto, using(crate::proofs::Kept::words))]
+#[tactic(auto, using(word::proofs::Words::kept, word::proofs::Names::max_is))]
 pub fn silk_max_32(a: i32, b: i32) -> i32
     ensures { result ≡ max_ℤ a b }
 {
-    word::max32(a, b)
+    a.max(b)
 }
 
 pub fn silk_rand(seed: i32) -> i32

@@ -10,9 +10,8 @@ use refusal::Refusal;
 use std::io::{self, Read, Write};
 use stream::{Head, Told, read_header};
 
-fn add(out: &mut [u8], i: usize, rate: i32, subframes: i32, b: &[u8; 817]) -> Result<(), Refusal> {
-    let record = Record { bytes: b };
-    match record.frame() {
+fn add(out: &mut [u8], i: usize, rate: i32, subframes: i32, r: &Record) -> Result<(), Refusal> {
+    match r.frame() {
         Frame::Lost => append_lost(out, i, rate, subframes),
         Frame::Received(q) => append_received(
             out,
@@ -20,10 +19,10 @@ fn add(out: &mut [u8], i: usize, rate: i32, subframes: i32, b: &[u8; 817]) -> Re
             rate,
             subframes,
             q,
-            record.control(),
-            record.rows(),
-            record.lines(),
-            &record.pulses(),
+            r.control(),
+            r.rows(),
+            r.lines(),
+            &r.pulses(),
         ),
     }
 }
@@ -48,7 +47,8 @@ fn record_stream(
             Ok(bytes) => bytes,
             Err(unread) => return writeln!(err, "{unread}"),
         };
-        if let Err(refusal) = add(&mut out, i as usize, rate, subframes, &bytes) {
+        let r = Record { bytes: &bytes };
+        if let Err(refusal) = add(&mut out, i as usize, rate, subframes, &r) {
             let number = refusal.number();
             return writeln!(err, "frame {i} refused: {number} {refusal}");
         }

@@ -2,7 +2,7 @@
 use Prim.Native.Nat.{ℕ, suc, ◌+◌, ◌-◌, ◌*◌, ◌/◌, ◌%◌, ◌^◌, ◌<◌, ◌≤◌}
 use mathlib.Core.Path.{◌≡◌}
 use mathlib.Core.Bool.{true}
-use native.Mathlib.Nat.{mul-le-mul, mul-le-mul_left, div-mul-le_self, pow-suc}
+use native.Mathlib.Nat.{mul-le-mul_left, div-mul-le_self, pow-suc}
 use native.Mathlib.Omega.{arith}
 use borrow.Author.Tests.{ltb-true}
 use lib.Dec.{T}
@@ -12,11 +12,6 @@ use lib.Signed.{lt_z, non_neg}
 use Rattle.word.specs.Int.{wrap32, mod_ℤ}
 use Rattle.word.proofs.Sizes.{abs-sub, abs-fits}
 use Rattle.word.proofs.Words.{wrap_id}
-
-pub den_le : (m k : ℕ) → m ≤ 163838 → k < 16 → m * (k + 1) ≤ 163838 * 16
-den_le m k h l =
-    let j : k + 1 ≤ 16 = omega arith in
-    mul-le-mul h j
 
 -- the quotient of a chirp
 pub quotient_le : (m k : ℕ) → 32767 < m → m ≤ 163838 → (m - 32767) * 16384 / (m * (k + 1) / 4) ≤ 262144

@@ -1,15 +1,18 @@
 -- The table and the cosines of lines.
-use Prim.Native.Nat.{ℕ, zero, suc, ◌-◌, ◌*◌, ◌<◌, ◌≤◌, zero-le, ◌/◌}
-use mathlib.Core.Path.{◌≡◌, refl}
-use mathlib.Core.Bool.{Bool, true, false, cond, ◌&&◌}
+use Prim.Native.Nat.{ℕ, zero, suc, ◌-◌, ◌*◌, ◌<◌, ◌≤◌, zero-le}
+use mathlib.Core.Path.{◌≡◌, refl, sym, ap, ◌∙◌}
+use mathlib.Core.Bool.{Bool, true, false, cond, ◌&&◌, ◌||◌}
 use mathlib.Core.List.{List, [], ◌∷◌}
 use native.Mathlib.Nat.{mul-le-mul, le_antisymm, le_of_suc-le-suc, not-suc-le-zero}
+use native.Mathlib.Numerals.{add-one}
 use native.Mathlib.Omega.{arith}
 use borrow.Author.Tests.{leb-true, ltb-true, ltb-false}
-use lib.Dec.{T, leb, ltb}
+use lib.Dec.{leb, ltb}
 use lib.IntN.{ℤ, pos, negsuc, nat_abs, neg_ℤ, ◌+ℤ◌, ◌-ℤ◌, ◌*ℤ◌}
-use lib.ListN.{get_or}
-use lib.Signed.{lt_z, non_neg, mag}
+use lib.ListN.{get_or, length, take}
+use lib.Signed.{lt_z, mag}
+use Rattle.std.specs.List.{list_any}
+use Rattle.std.proofs.lemmas.List.Folds.{list_any_more}
 use mir.Syntax.{w16, w32}
 use mir.Val.{SFits, to_z, of_z}
 use mir.Facts.{to_z-of_z}
@@ -72,14 +75,19 @@ interpolated x y r hx hy hr =
     rw (wrap_add_l w32 a (wrap32 (wrap32 (y -ℤ x) *ℤ pos r)), wrap_mul_l w32 (y -ℤ x) (pos r), wrap_add_r w32 a d)
     (wrap_id (abs-fits (a +ℤ d) (omega (arith, abs-add a d, abs-mul x (pos 256), abs-mul (y -ℤ x) (pos r)))))
 
--- a number that is not negative
-pub nonneg : (z : ℤ) → lt_z z (pos 0) ≡ false → T (non_neg z)
-nonneg (pos n) e = tt
-nonneg (negsuc n) e = let z : ◌≡◌ {A = ℕ} 0 1 = cc in absurd (omega arith)
-
+-- the size of a number that is not negative
 pub nonneg_lt : (z : ℤ) (H : ℕ) → lt_z z (pos 0) ≡ false → mag z < H → nat_abs z < H
 nonneg_lt (pos n) H e h = h
 nonneg_lt (negsuc n) H e h = let z : ◌≡◌ {A = ℕ} 0 1 = cc in absurd (omega arith)
+
+-- a test of the first lines, one after another
+pub any_front : (lines : List ℤ) (d : ℕ) → d ≤ length lines → list_any (λ x. lt_z x (pos 0)) (take d lines) ≡ negative_line lines d
+unfolding negative_line
+any_front lines zero h = refl
+any_front lines (suc d) h =
+    ap (λ (m : ℕ). list_any (λ x. lt_z x (pos 0)) (take m lines)) (sym (add-one d))
+    ∙ list_any_more (λ x. lt_z x (pos 0)) lines d (pos 0) h
+    ∙ ap (λ (b : Bool). b || lt_z (get_or lines d (pos 0)) (pos 0)) (any_front lines d (omega arith))
 
 pub line_nonneg : (lines : List ℤ) (d k : ℕ) → negative_line lines d ≡ false → k < d → lt_z (get_or lines k (pos 0)) (pos 0) ≡ false
 unfolding negative_line
@@ -99,10 +107,6 @@ pub nonneg_lines : (lines : List ℤ) (d : ℕ) → ((k : ℕ) → k < d → lt_
 unfolding negative_line
 nonneg_lines lines zero h = refl
 nonneg_lines lines (suc d) h = rw (nonneg_lines lines d (λ k l. h k (omega arith)), h d (omega arith)) refl
-
--- the table has an entry at a line's place, and one after it
-pub line_place : (z : ℤ) → SFits w16 z → lt_z z (pos 0) ≡ false → nat_abs z / 256 ≤ 127
-line_place z f e = omega (arith, nonneg_lt z 32768 e f.sfits)
 
 -- every place of an ordering is one of 16
 below : ℕ → List ℕ → Bool

@@ -1,23 +1,18 @@
 -- An array whose first places hold a list, and the rest of another.
 use Prim.Native.Nat.{ℕ, suc, ◌+◌, ◌<◌, ◌≤◌, ◌^◌}
-use mathlib.Core.Path.{◌≡◌, sym, ap, ◌∙◌}
+use mathlib.Core.Path.{◌≡◌, sym, ◌∙◌}
 use mathlib.Core.List.{List, ◌∷◌, ◌++◌, map, append-nil}
 use native.Mathlib.Numerals.{add-one}
 use native.Mathlib.Omega.{arith}
 use lib.IntN.{ℤ, pos, ◌*ℤ◌}
 use lib.ListN.{length, get_or, set, take, drop, drop_of_length-le, get_or-append}
-use lib.Seq.{drop-cons, get_or_at, take-length, take-suc, append_snoc, set_at, length-take-le, get_or-take}
+use lib.Seq.{drop-cons, take-length, take-suc, append_snoc, set_at, length-take-le, get_or-take}
 use Rattle.word.specs.Int.{wrap32, sat16}
 use Rattle.word.specs.Tabulate.{tabulate}
 use Rattle.word.proofs.Lists.{length-tabulate, get_or-tabulate}
 use Rattle.word.proofs.Order.{sat16-fits}
 use Rattle.word.proofs.Sizes.{abs-mul, abs-fits, fits-abs}
 use Rattle.word.proofs.Words.{wrap_id}
-
--- the place after the list is still the other's
-pub rest_at : (p d : List ℤ) (i : ℕ) → length p ≡ i → i < length d → get_or (p ++ drop i d) i (pos 0) ≡ get_or d i (pos 0)
-rest_at p d i e h =
-    ap (λ (r : List ℤ). get_or (p ++ r) i (pos 0)) (drop-cons d i (pos 0) h) ∙ get_or_at p (get_or d i (pos 0)) (drop (suc i) d) (pos 0) i e
 
 -- the loop's end: a list as long as another is filled
 pub filled : (f : ℤ → ℤ) (a z : List ℤ) → length z ≡ length a → map f (take (length a) a) ++ drop (length a) z ≡ map f a

@@ -2,14 +2,14 @@
 use Prim.Native.Nat.{ℕ, zero, suc, min}
 use mathlib.Core.Path.{◌≡◌, refl, ◌∙◌}
 use mathlib.Core.Bool.{Bool, true, false, cond}
-use mathlib.Core.List.{List, [], ◌∷◌, map}
-use lib.Dec.{lit<}
+use mathlib.Core.List.{List}
 use lib.IntN.{ℤ, pos, nat_abs}
 use lib.ListN.{length, get_or, length-map}
 use lib.Signed.{lt_z}
 use mir.Syntax.{w16}
 use mir.Val.{SFits}
 use Rattle.word.specs.Int.{eq_ℤ}
+use Rattle.word.proofs.Fits.{AllFit, map-fits}
 use Rattle.word.proofs.Order.{sat16-fits}
 use Rattle.word.proofs.Words.{wrap-fits}
 use Rattle.stability.specs.Stability.{stability, inverse_gain}
@@ -20,21 +20,12 @@ use Rattle.nlsf.specs.Filter.{round_chirp, expanded, stabilised, nlsf2a}
 use Rattle.nlsf.proofs.Polynomials.{length-coefficients}
 use Rattle.nlsf.proofs.Rounds.{length-bwexpander32}
 
--- every number of a list is of 16 bits
-abbrev Short : List ℤ → Type 0
-Short xs = (k : ℕ) → SFits w16 (get_or xs k (pos 0))
-
-map-short : (f : ℤ → ℤ) (xs : List ℤ) → ((x : ℤ) → SFits w16 (f x)) → Short (map f xs)
-map-short f [] h k = record { sfits = lit< tt }
-map-short f (x ∷ xs) h zero = h x
-map-short f (x ∷ xs) h (suc k) = map-short f xs h k
-
 abbrev Sound : ℕ → Fit → Type 0
-Sound d f = (length f.q12 ≡ d) × (length f.q17 ≡ d) × Short f.q12
+Sound d f = (length f.q12 ≡ d) × (length f.q17 ≡ d) × AllFit w16 f.q12
 
 rounded-sound : (a : List ℤ) → Sound (length a) (record { q12 = rounded a; q17 = a })
 unfolding rounded
-rounded-sound a = (length-map a _, refl, map-short _ a (λ x. wrap-fits w16 _))
+rounded-sound a = (length-map a _, refl, map-fits _ a (λ x. wrap-fits w16 _))
 
 -- one of two
 either : (b : Bool) (d : ℕ) (f g : Fit) → Sound d f → Sound d g → Sound d (cond b f g)
@@ -43,7 +34,7 @@ either false d f g h k = k
 
 fit-sound : (n : ℕ) (a : List ℤ) (d : ℕ) → length a ≡ d → Sound d (lpc_fit n a)
 unfolding lpc_fit saturated
-fit-sound zero a d e = (length-map a _ ∙ e, length-map a _ ∙ e, map-short _ a (λ x. sat16-fits _))
+fit-sound zero a d e = (length-map a _ ∙ e, length-map a _ ∙ e, map-fits _ a (λ x. sat16-fits _))
 fit-sound (suc n) a d e =
     let p = maxabs a (length a) in
     let m = in_q12 p.size in

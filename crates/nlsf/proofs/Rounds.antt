@@ -11,7 +11,7 @@ use lib.ListN.{length, get_or}
 use lib.Signed.{lt_z}
 use mir.Syntax.{w16}
 use mir.Val.{SFits}
-use Rattle.word.specs.Int.{wrap16, wrap32, sat16, floor_div, eq_ℤ}
+use Rattle.word.specs.Int.{wrap16, sat16, floor_div, eq_ℤ}
 use Rattle.word.proofs.Order.{sat16-fits}
 use Rattle.word.proofs.Parts.{eq_parts, div_parts, add_parts, mul-parts}
 use Rattle.word.proofs.Words.{wrap_id}
@@ -19,7 +19,7 @@ use Rattle.macros.proofs.Rounding.{round_at}
 use Rattle.word.proofs.Lists.{length-tabulate}
 use Rattle.stability.specs.Stability.{stability, inverse_gain}
 use Rattle.nlsf.specs.Expand.{bwexpander32}
-use Rattle.nlsf.specs.Fit.{Fit, higher, maxabs, fit_chirp, in_q12, rounded, saturated, lpc_fit}
+use Rattle.nlsf.specs.Fit.{Fit, higher, largest_by, maxabs, fit_chirp, in_q12, rounded, saturated, lpc_fit}
 use Rattle.nlsf.specs.Filter.{expanded, stabilised}
 
 pub length-bwexpander32 : (chirp : ℤ) (a : List ℤ) → length (bwexpander32 chirp a) ≡ length a
@@ -27,15 +27,16 @@ unfolding bwexpander32
 length-bwexpander32 chirp a = length-tabulate (length a) _
 
 -- the largest stands at one of the places
-pub maxabs-place : (a : List ℤ) (n : ℕ) → n ≤ 16 → (maxabs a n).place < 16
-unfolding maxabs higher
-maxabs-place a zero h = omega arith
-maxabs-place a (suc n) h =
-    go (lt_z (maxabs a n).size (wrap32 (pos (nat_abs (get_or a n (pos 0)))))) (maxabs-place a n (omega arith))
+pub largest_place : (f : ℤ → ℤ) (a : List ℤ) (n : ℕ) → (largest_by f a n).place ≤ n - 1
+unfolding largest_by higher
+largest_place f a zero = omega arith
+largest_place f a (suc n) =
+    let e : suc n - 1 ≡ n = omega arith in
+    rw e (go (lt_z (largest_by f a n).size (f (get_or a n (pos 0)))) (largest_place f a n))
   where
-    go : (b : Bool) → (maxabs a n).place < 16 → (cond b (record { size = wrap32 (pos (nat_abs (get_or a n (pos 0)))); place = n }) (maxabs a n)).place < 16
-    go true k = h
-    go false k = k
+    go : (b : Bool) → (largest_by f a n).place ≤ n - 1 → (cond b (record { size = f (get_or a n (pos 0)); place = n }) (largest_by f a n)).place ≤ n
+    go true k = omega arith
+    go false k = omega arith
 
 -- a round that fits coefficients
 module _ (a : List ℤ) (i : ℕ) (h : i < 10) where

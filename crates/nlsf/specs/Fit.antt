@@ -15,10 +15,14 @@ pub record Fit : Type 0 where
 unfoldable pub higher : Largest → ℤ → ℕ → Largest
 higher p v k = cond (lt_z p.size v) (record { size = v; place = k }) p
 
--- the largest of the first n coefficients without their signs, the first if several are; the least number has a negative size
-unfoldable pub maxabs : List ℤ → ℕ → Largest
-maxabs a zero = record { size = pos 0; place = 0 }
-maxabs a (suc n) = higher (maxabs a n) (wrap32 (pos (nat_abs (get_or a n (pos 0))))) n
+-- the largest of the first n numbers of a list by a size f, and its place, the first if several are; 0 at place 0 if no size is above 0
+unfoldable pub largest_by : (ℤ → ℤ) → List ℤ → ℕ → Largest
+largest_by f a zero = record { size = pos 0; place = 0 }
+largest_by f a (suc n) = higher (largest_by f a n) (f (get_or a n (pos 0))) n
+
+-- the largest of the first n coefficients without their signs; the least number has a negative size
+abbrev pub maxabs : List ℤ → ℕ → Largest
+maxabs a n = largest_by (λ x. wrap32 (pos (nat_abs x))) a n
 
 -- the chirp (Q16) for a largest coefficient of size m (Q12) at place k
 unfoldable pub fit_chirp : ℕ → ℕ → ℤ

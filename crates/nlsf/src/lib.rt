@@ -4,7 +4,8 @@
 
 mod tables;
 
-ghost use Rattle.std.specs.Prelude.{◌≡◌, true, false, ◌++◌, min, ◌+◌, ◌-◌, ◌/◌, ◌%◌, ◌≤◌, ◌<◌, pos, nat_abs, length, drop, replicate};
+ghost use Rattle.std.specs.Prelude.{◌≡◌, true, false, ◌++◌, min, ◌+◌, ◌-◌, ◌/◌, ◌≤◌, ◌<◌, ℤ, FitsSigned, pos, nat_abs, length, drop, replicate};
+ghost use Rattle.std.specs.Int.{w32};
 ghost use Rattle.std.specs.Int.Signed.{lt_z};
 ghost use Rattle.word.specs.Int.{sat16};
 ghost use Rattle.word.specs.Tabulate.{tabulate};
@@ -14,7 +15,7 @@ ghost use Rattle.nlsf.specs.Table.{lsf_cos};
 ghost use Rattle.nlsf.specs.Values.{LsfCosKept};
 ghost use Rattle.nlsf.specs.Lines.{negative_line, lsf_cosine, ordering, cosines, times_factor, poly, even_term, odd_term, lpc_coefficient, coefficients_of};
 ghost use Rattle.nlsf.specs.Expand.{next_factor, bwexpander32};
-ghost use Rattle.nlsf.specs.Fit.{higher, maxabs, fit_chirp, in_q12, rounded, saturated, lpc_fit};
+ghost use Rattle.nlsf.specs.Fit.{higher, largest_by, maxabs, fit_chirp, in_q12, rounded, saturated, lpc_fit};
 ghost use Rattle.nlsf.specs.Filter.{round_chirp, stabilised, nlsf2a, nlsf2a_refusal, nlsf2a_of};
 
 use edition::{NEWER, is_edition};
@@ -25,11 +26,11 @@ use stability::{Coefs, inverse_pred_gain, mul_q};
 use tables::{ORDERING10, ORDERING16, SILK_LSF_COS_TAB_FIX_Q12};
 use word::{abs32, add32, low16, mul32, neg32, sat16, shl32, sub32, wide16};
 
-// The largest coefficient without its sign, and its place.
+// The largest number found, and its place.
 #[derive(Clone, Copy)]
-struct Largest {
-    size: i32,
-    place: usize,
+pub struct Largest {
+    pub size: i32,
+    pub place: usize,
 }
 
 // Entry i of the table, above place 64 by its rule.
@@ -43,7 +44,7 @@ pub fn lsf_cos(i: usize) -> i16
     SILK_LSF_COS_TAB_FIX_Q12[i]
 }
 
-// Every caller sees the 129 values that it saw while all of them stood in the table.
+// The 129 entries are those of tables.rs.
 pub fn lsf_cos_kept()
     ensures { LsfCosKept }
 {}
@@ -67,8 +68,8 @@ fn ordering(order: Order, k: usize) -> usize
     ensures { (result ≡ ordering (size order) k) × (result < 16) }
 {
     match order {
-        Order::Ten => ORDERING10[k] as usize,
-        Order::Sixteen => ORDERING16[k] as usize,
+        Order::Ten => usize::from(ORDERING10[k]),
+        Order::Sixteen => usize::from(ORDERING16[k]),
     }
 }
 
@@ -77,11 +78,7 @@ fn negative_line(nlsf: &[i16], d: usize) -> bool
     requires { d ≤ length nlsf.now }
     ensures { result ≡ negative_line nlsf.now d }
 {
-    let mut found = false;
-    for line in &nlsf[..d] {
-        found = found | (*line < 0);
-    }
-    found
+    nlsf[..d].iter().any(|line| *line < 0)
 }
 
 // The cosines of an order's lines, each at its place.
@@ -98,7 +95,7 @@ fn cosines(nlsf: &[i16], order: Order) -> [i32; 16]
 }
 
 // Coefficient n, from 2 on, of a polynomial times a factor.
-#[tactic(auto, using(stability::proofs::Kept::words, word::proofs::Words::wrap_add_l, crate::proofs::Polynomials::term_at), unfolding(crate::specs::Lines::poly_term))]
+#[tactic(auto, using(macros::proofs::Kept::words, word::proofs::Words::wrap_add_l, crate::proofs::Polynomials::term_at), unfolding(crate::specs::Lines::poly_term))]
 fn poly_term(f: i32, p: &[i32], n: usize) -> i32
     requires { (2 ≤ n) × (n < length p.now) }
     ensures { result ≡ times_factor f p.now n }
@@ -118,7 +115,7 @@ fn times_factor(f: i32, p: &mut [i32])
 }
 
 // The product of dd factors, for the cosines at the places s, s + 2, ..
-// A loop over places, since each turn reads every other cosine and lends a longer front of p.
+// By place: step_by over the cosines would stand under skip, take and enumerate, since each turn also lends a front of p that is one longer.
 fn silk_nlsf2a_find_poly(c: &[i32; 16], s: usize, dd: usize) -> [i32; 9]
     requires { (s ≤ 1) × (1 ≤ dd) × (dd ≤ 8) }
     ensures { result ≡ poly c.now s (dd - 1) ++ drop (dd + 1) (replicate 9 (pos 0)) }
@@ -135,7 +132,7 @@ fn silk_nlsf2a_find_poly(c: &[i32; 16], s: usize, dd: usize) -> [i32; 9]
     p
 }
 
-#[tactic(auto, using(stability::proofs::Kept::words), unfolding(crate::specs::Lines::even_term))]
+#[tactic(auto, using(macros::proofs::Kept::words), unfolding(crate::specs::Lines::even_term))]
 fn even_term(p: &[i32; 9], k: usize) -> i32
     requires { k ≤ 7 }
     ensures { result ≡ even_term p.now k }
@@ -143,7 +140,7 @@ fn even_term(p: &[i32; 9], k: usize) -> i32
     add32(p[k + 1], p[k])
 }
 
-#[tactic(auto, using(stability::proofs::Kept::words), unfolding(crate::specs::Lines::odd_term))]
+#[tactic(auto, using(macros::proofs::Kept::words), unfolding(crate::specs::Lines::odd_term))]
 fn odd_term(q: &[i32; 9], k: usize) -> i32
     requires { k ≤ 7 }
     ensures { result ≡ odd_term q.now k }
@@ -151,11 +148,13 @@ fn odd_term(q: &[i32; 9], k: usize) -> i32
     sub32(q[k + 1], q[k])
 }
 
-// Coefficient i of order d (Q17) from the two polynomials.
-fn lpc_coefficient(p: &[i32; 9], q: &[i32; 9], d: usize, i: usize) -> i32
-    requires { (d % 2 ≡ 0) × (d ≤ 16) × (i < d) }
-    ensures { result ≡ lpc_coefficient p.now q.now d i }
+// Coefficient i of an order (Q17) from the two polynomials.
+#[tactic(auto, using(shape::proofs::Orders::size_even, shape::proofs::Orders::size_high))]
+fn lpc_coefficient(p: &[i32; 9], q: &[i32; 9], order: Order, i: usize) -> i32
+    requires { i < size order }
+    ensures { result ≡ lpc_coefficient p.now q.now (size order) i }
 {
+    let d = order.size();
     if i < d / 2 {
         neg32(add32(odd_term(q, i), even_term(p, i)))
     } else {
@@ -166,15 +165,14 @@ fn lpc_coefficient(p: &[i32; 9], q: &[i32; 9], d: usize, i: usize) -> i32
 fn lpc_coefficients(p: &[i32; 9], q: &[i32; 9], order: Order) -> [i32; 16]
     ensures { result ≡ tabulate (size order) (lpc_coefficient p.now q.now (size order)) ++ drop (size order) (replicate 16 (pos 0)) }
 {
-    let d = order.size();
     let mut a = [0; 16];
-    for (i, x) in a[..d].iter_mut().enumerate() {
-        *x = lpc_coefficient(p, q, d, i);
+    for (i, x) in a[..order.size()].iter_mut().enumerate() {
+        *x = lpc_coefficient(p, q, order, i);
     }
     a
 }
 
-#[tactic(auto, using(stability::proofs::Kept::words, word::proofs::Words::wrap_mul_r), unfolding(crate::specs::Expand::next_factor))]
+#[tactic(auto, using(macros::proofs::Kept::words, word::proofs::Words::wrap_mul_r), unfolding(crate::specs::Expand::next_factor))]
 fn next_factor(chirp: i32, f: i32) -> i32
     ensures { result ≡ next_factor chirp f }
 {
@@ -191,8 +189,9 @@ fn silk_bwexpander_32(ar: &mut [i32], chirp: i32)
     }
 }
 
-#[tactic(auto, using(stability::proofs::Kept::words, word::proofs::Order::lt_read), unfolding(crate::specs::Fit::higher))]
-fn higher(p: Largest, v: i32, k: usize) -> Largest
+// What was found, or a number at place k that is above it.
+#[tactic(auto, using(macros::proofs::Kept::words, word::proofs::Order::lt_read), unfolding(crate::specs::Fit::higher))]
+pub fn higher(p: Largest, v: i32, k: usize) -> Largest
     ensures { result ≡ higher p v k }
 {
     if v > p.size {
@@ -201,15 +200,22 @@ fn higher(p: Largest, v: i32, k: usize) -> Largest
     p
 }
 
-#[tactic(auto, using(stability::proofs::Kept::words), unfolding(crate::specs::Fit::maxabs))]
-fn maxabs(a: &[i32]) -> Largest
-    ensures { result ≡ maxabs a.now (length a.now) }
+// The largest size above 0 of a slice's numbers, at the first place that has it.
+pub fn largest_by<F: Fn(i32) -> i32>(a: &[i32], size: F) -> Largest
+    requires { F.IsAlwaysCallable size }
+    ensures { (h : ℤ → ℤ) → ((x y : ℤ) → FitsSigned w32 x → F.post size x y → y ≡ h x) → result ≡ largest_by h a.now (length a.now) }
 {
     let mut p = Largest { size: 0, place: 0 };
     for (k, x) in a.iter().enumerate() {
-        p = higher(p, abs32(*x), k);
+        p = higher(p, size(*x), k);
     }
     p
+}
+
+fn maxabs(a: &[i32]) -> Largest
+    ensures { result ≡ maxabs a.now (length a.now) }
+{
+    largest_by(a, abs32)
 }
 
 fn fit_chirp(m: usize, place: usize) -> i32
@@ -221,7 +227,7 @@ fn fit_chirp(m: usize, place: usize) -> i32
     sub32(65470, (num / den) as i32)
 }
 
-#[tactic(auto, using(stability::proofs::Kept::words), unfolding(crate::specs::Fit::in_q12))]
+#[tactic(auto, using(macros::proofs::Kept::words), unfolding(crate::specs::Fit::in_q12))]
 fn in_q12(x: i32) -> i32
     ensures { result ≡ in_q12 x }
 {
@@ -232,6 +238,7 @@ fn rounded(a_q12: &mut [i16], a: &[i32])
     requires { length a_q12.old ≡ length a.now }
     ensures { a_q12.new ≡ rounded a.now }
 {
+    // Not a zip: after one over `iter_mut` only the length of a_q12 is known.
     for (k, x) in a.iter().enumerate() {
         a_q12[k] = low16(in_q12(*x));
     }
@@ -246,7 +253,7 @@ fn saturated(a: &mut [i32])
 }
 
 // The chirp for a largest coefficient m (Q12) at a place.
-#[tactic(auto, using(stability::proofs::Kept::words, crate::proofs::Chirps::above))]
+#[tactic(auto, using(macros::proofs::Kept::words, crate::proofs::Chirps::above))]
 fn chirp_of(m: i32, place: usize) -> i32
     requires { (lt_z (pos 32767) m ≡ true) × (place < 16) }
     ensures { result ≡ fit_chirp (min (nat_abs m) 163838) place }
@@ -274,7 +281,7 @@ fn silk_lpc_fit(a_q12: &mut [i16], a: &mut [i32])
     rounded(a_q12, a);
 }
 
-#[tactic(auto, using(stability::proofs::Kept::words, crate::proofs::Chirps::chirp_kept, crate::proofs::Chirps::round_shift_lem, crate::proofs::Chirps::round_le), unfolding(crate::specs::Filter::round_chirp))]
+#[tactic(auto, using(macros::proofs::Kept::words, crate::proofs::Chirps::chirp_kept, crate::proofs::Chirps::round_shift_lem, crate::proofs::Chirps::round_le), unfolding(crate::specs::Filter::round_chirp))]
 fn round_chirp(i: usize) -> i32
     requires { i < 16 }
     ensures { result ≡ round_chirp i }

@@ -1,7 +1,8 @@
 -- A record played, and the count of frames.
-use Rattle.std.specs.Prelude.{ℕ, ◌+◌, List, cond, eqb, ℤ, pos, replicate, Result, Ok, Err}
+use Rattle.std.specs.Prelude.{ℕ, ◌+◌, List, ℤ, pos, replicate, Result, Ok, Err}
 use Rattle.refusal.specs.declared.Refusal.{Refusal}
 use Rattle.decoder.specs.declared.SilkDecoderState.{SilkDecoderState}
+use Rattle.decoder.specs.declared.Frame.{Frame}
 use Rattle.decode_frame.specs.Call.{Call, frame_call}
 use Rattle.decode_frame.specs.Answer.{frame_answer, frame_output}
 use Rattle.decoder.specs.declared.Answer.{Answer}
@@ -34,10 +35,11 @@ module _ (s : SilkDecoderState) (rate subframes : ℤ) (b : List ℕ) where
         bytes = packed w16 (frame_output s call_in) 320;
       }
 
--- what became of a frame of a kind that was answered so
-abbrev pub how_of : ℕ → Result Answer Refusal → Ended
-how_of kind (Ok a) = cond (eqb kind 0) Concealed Received
-how_of kind (Err r) = Refused r
+-- what became of a frame that was answered so
+abbrev pub how_of : Frame → Result Answer Refusal → Ended
+how_of Frame.Lost (Ok a) = Concealed
+how_of (Frame.Received q) (Ok a) = Received
+how_of frame (Err r) = Refused r
 
 -- the frames counted
 abbrev pub total : Tally → ℕ

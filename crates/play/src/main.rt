@@ -6,9 +6,9 @@ ghost use Rattle.std.specs.Prelude.{◌≡◌, ◌+◌, ◌≤◌, ◌<◌};
 ghost use Rattle.play.specs.Play.{sound_of, how_of, total, counted_of};
 
 use decode_frame::silk_decode_frame;
-use decoder::{Answer, Settings, SilkDecoderState, set_up_with};
+use decoder::{Answer, Frame, Settings, SilkDecoderState, set_up_with};
 use edition::NEWER;
-use input::{is_filled, read_full};
+use input::{fill, read_full};
 use record::Record;
 use refusal::Refusal;
 use std::io::{self, Read, Write};
@@ -21,15 +21,14 @@ struct Sound {
     bytes: [u8; 640],
 }
 
-fn played(s: SilkDecoderState, rate: i32, subframes: i32, b: &[u8; 817]) -> Sound
-    ensures { result ≡ sound_of s rate subframes b.now }
+fn played(s: SilkDecoderState, rate: i32, subframes: i32, r: &Record) -> Sound
+    ensures { result ≡ sound_of s rate subframes r.now.bytes.now }
 {
-    let record = Record { bytes: b };
-    let frame = record.frame();
-    let c = record.control();
-    let rows = record.rows();
-    let lines = record.lines();
-    let pulses = record.pulses();
+    let frame = r.frame();
+    let c = r.control();
+    let rows = r.rows();
+    let lines = r.lines();
+    let pulses = r.pulses();
     let mut xq = silence();
     let answer = silk_decode_frame(s, rate, subframes, frame, c, rows, lines, &pulses, &mut xq);
     let bytes = samples_bytes(&xq);
@@ -44,18 +43,15 @@ enum Ended {
     Refused(Refusal),
 }
 
-fn how(kind: u8, answer: Result<Answer, Refusal>) -> Ended
-    ensures { result ≡ how_of kind answer }
+fn how(frame: Frame, answer: Result<Answer, Refusal>) -> Ended
+    ensures { result ≡ how_of frame answer }
 {
     match answer {
         Err(refusal) => Ended::Refused(refusal),
-        Ok(_) => {
-            if kind == 0 {
-                Ended::Concealed
-            } else {
-                Ended::Received
-            }
-        }
+        Ok(_) => match frame {
+            Frame::Received(_) => Ended::Received,
+            Frame::Lost => Ended::Concealed,
+        },
     }
 }
 
@@ -101,7 +97,8 @@ fn play_records(
             Ok(bytes) => bytes,
             Err(unread) => return writeln!(err, "{unread}"),
         };
-        let sound = played(state, rate, subframes, &bytes);
+        let r = Record { bytes: &bytes };
+        let sound = played(state, rate, subframes, &r);
         if out.write_all(&sound.bytes[..n]).is_err() {
             return writeln!(err, "the WAV file could not be written");
         }
@@ -112,9 +109,9 @@ fn play_records(
                 writeln!(err, "frame {i} refused: {number} {refusal}")?;
             }
         }
-        t = counted(t, how(bytes[0], sound.answer));
+        t = counted(t, how(r.frame(), sound.answer));
     }
-    if is_filled(input, &mut [0; 1])? {
+    if fill(input, &mut [0; 1])? {
         return writeln!(err, "bytes follow the last record");
     }
     let received = t.received;
@@ -150,7 +147,7 @@ fn play(
     if out.write_all(&head).is_err() {
         return writeln!(err, "the WAV file could not be written");
     }
-    // No squelch, and the newer edition: a stream's samples are those of the Rust.
+    // Not decoder's defaults, so that one that changes moves no stream: its samples are the Rust's, with no squelch and the newer edition.
     let settings = Settings {
         squelch: 0,
         edition: NEWER,

@@ -1,24 +1,23 @@
 -- What a call leaves, and what playing a recording answers, refused or not.
-use Prim.Native.Nat.{ℕ, suc, ◌-◌, ◌*◌, ◌≤◌}
+use Prim.Native.Nat.{ℕ, ◌-◌, ◌*◌, ◌≤◌}
 use mathlib.Core.Path.{◌≡◌, refl, sym, ap, ◌∙◌}
 use mathlib.Core.Bool.{false}
-use mathlib.Core.List.{List, [], ◌∷◌, ◌++◌, map}
+use mathlib.Core.List.{List, [], ◌∷◌, ◌++◌}
 use borrow.Author.Tests.{ltb-false}
 use lib.Dec.{ltb}
 use lib.IntN.{ℤ}
-use lib.ListN.{length, drop}
+use lib.ListN.{length, drop, length-map}
 use Rattle.std.specs.Prelude.{Result, Ok, Err, IfOk}
 use Rattle.refusal.specs.First.{◌gives◌, first_of}
-use Rattle.refusal.specs.Refusals.{Judged, code_of, if_accepted}
+use Rattle.refusal.specs.Refusals.{Judged, code_of}
 use Rattle.refusal.specs.declared.Refusal.{Refusal}
 use Rattle.refusal.specs.declared.Refusal.TheVariants.{Record}
 use Rattle.refusal.proofs.Clear.{clear}
 use Rattle.decoder.specs.Answer.{answer}
-use Rattle.decoder.specs.Outcome.{Outcome}
 use Rattle.decoder.specs.declared.SilkDecoderState.{SilkDecoderState}
 use Rattle.chain.specs.Chain.{records_in, chain_of, on_chain}
 use Rattle.decode_frame.specs.Call.{Call}
-use Rattle.decode_frame.specs.Answer.{frame_refusal, frame_outcome, frame_answer, state_left}
+use Rattle.decode_frame.specs.Answer.{frame_answer, state_left}
 use Rattle.lists.specs.Lists.{state_after}
 use Rattle.recording.specs.Frames.{frames_in}
 use Rattle.recording.specs.Reading.{read_refusal}
@@ -26,13 +25,9 @@ use Rattle.recording.proofs.Rows.{then_err, passed_then}
 use Rattle.playback.specs.declared.Played.{Played}
 use Rattle.playback.specs.Playback.{received_in, played_samples, play_refusal, play_of}
 
-pub length-map : {A B : Type 0} (f : A → B) (xs : List A) → length (map f xs) ≡ length xs
-length-map f [] = refl
-length-map f (x ∷ xs) = ap suc (length-map f xs)
-
 pub length-frames : (b : List ℕ) → length (frames_in b) ≡ length (on_chain (chain_of b))
 unfolding frames_in
-length-frames b = length-map _ (on_chain (chain_of b))
+length-frames b = length-map (on_chain (chain_of b)) _
 
 pub left : (s : SilkDecoderState) (x : Call) → state_left s (frame_answer s x) ≡ state_after s x
 unfolding state_after

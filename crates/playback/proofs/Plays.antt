@@ -6,10 +6,11 @@ use mathlib.Core.List.{List, [], ◌∷◌, map}
 use native.Mathlib.Omega.{arith}
 use lib.Dec.{eqb}
 use lib.IntN.{ℤ, pos}
-use lib.ListN.{length, get_or, drop, length-replicate}
+use lib.ListN.{length, get_or, drop, length-map, length-replicate}
 use mir.Syntax.{Width, w16, w32}
 use Rattle.word.proofs.Lists.{length-tabulate}
 use Rattle.word.proofs.Words.{wrap-fits}
+use Rattle.word.proofs.Fits.{zero_fits, tabulate-fits}
 use Rattle.le.specs.Bytes.{signed_at, words_at}
 use Rattle.refusal.specs.Refusals.{code_of}
 use Rattle.refusal.proofs.Clear.{accepted}
@@ -18,7 +19,7 @@ use Rattle.shape.specs.Shape.{shape, is_rate, is_count}
 use Rattle.shape.proofs.Shapes.{frame_le}
 use Rattle.decoder.specs.Typed.{Words, TypedControl, TypedRows, TypedLines}
 use Rattle.decoder.proofs.SetUps.{set_up_state}
-use Rattle.decoder.proofs.Types.{zero_fits, zeros-words, tabulate-fits}
+use Rattle.decoder.proofs.Types.{zeros-words}
 use Rattle.record.specs.Record.{params_in, control_in, rows_in, lines_in, pulses_in}
 use Rattle.record.specs.Recorded.{Recorded, lost, received, recorded_in}
 use Rattle.chain.specs.Chain.{chain_of, on_chain}
@@ -29,12 +30,12 @@ use Rattle.lists.proofs.Plays.{frames-played}
 use Rattle.playback.specs.Playback.{no_control, silence, call_of, plain, start_of}
 use Rattle.playback.specs.Claims.{RecordingPlays}
 use Rattle.playback.proofs.Read.{settings-fit}
-use Rattle.playback.proofs.Answers.{length-map, length-frames}
+use Rattle.playback.proofs.Answers.{length-frames}
 
 -- words that are read are words
 words_typed : (w : Width) (b : List ℕ) (at n : ℕ) → Words w n (words_at w b at n)
 unfolding signed_at
-words_typed w b at n = record { count = length-tabulate n _; fits = tabulate-fits n _ (λ i. wrap-fits w _) }
+words_typed w b at n = record { count = length-tabulate n _; fits = tabulate-fits n _ (λ i l. wrap-fits w _) }
 
 -- what a record brings has the ranges of its types
 abbrev Fit : Recorded → Type 0
@@ -100,7 +101,7 @@ unfolding frames_in
 recording_plays b t a =
     let r = rows-clear b a in
     let ks = on_chain (chain_of b) in
-    let l : length (map (call_of (rate_in b) (count_in b)) (frames_in b)) ≤ 2147483647 = omega (arith, length-map (call_of (rate_in b) (count_in b)) (frames_in b), length-frames b, few-frames b r.whole) in
+    let l : length (map (call_of (rate_in b) (count_in b)) (frames_in b)) ≤ 2147483647 = omega (arith, length-map (frames_in b) (call_of (rate_in b) (count_in b)), length-frames b, few-frames b r.whole) in
     let s = set_up_state (rate_in b) (count_in b) plain r.rate r.count settings-fit in (
       s,
       frames-played (rate_in b) (count_in b) plain (start_of b) (map (call_of (rate_in b) (count_in b)) (frames_in b))

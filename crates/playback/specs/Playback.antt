@@ -20,7 +20,7 @@ use Rattle.chain.specs.Chain.{records_in}
 use Rattle.recording.specs.Frames.{rate_in, count_in, frames_in}
 use Rattle.recording.specs.Rows.{first_then}
 use Rattle.recording.specs.Reading.{read_refusal}
-use Rattle.playback.specs.declared.Sound.{Sound}
+use Rattle.record.specs.declared.Sound.{Sound}
 use Rattle.playback.specs.declared.Played.{Played}
 
 -- a lost frame brings a description of zeros

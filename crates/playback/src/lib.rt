@@ -13,17 +13,10 @@ ghost use Rattle.playback.specs.Claims.{RecordingPlays};
 use decode_frame::{lost_frame, received_frame};
 use decoder::{Answer, Settings, SilkDecoderControl, SilkDecoderState, set_up_with};
 use edition::NEWER;
-use record::Record;
+use record::{Record, Sound};
 use recording::{Frames, read};
 use refusal::{Refusal, refuse_if};
 use sigproc::copy_at;
-
-// A frame's state and samples, of which the first 5rn are played.
-#[derive(Clone, Copy)]
-pub struct Sound {
-    pub state: SilkDecoderState,
-    pub samples: [i16; 320],
-}
 
 // The state that a call returns, or, refused, leaves.
 fn state_left(s: SilkDecoderState, answer: Result<Answer, Refusal>) -> SilkDecoderState
@@ -51,17 +44,17 @@ pub fn lost_sound(s: SilkDecoderState, rate: i32, subframes: i32) -> Sound
 }
 
 // The frame of a record.
-pub fn frame_sound(s: SilkDecoderState, rate: i32, subframes: i32, record: &Record) -> Sound
-    ensures { result ≡ sound_of s (call_of rate subframes (recorded_in record.now.bytes.now)) }
+pub fn frame_sound(s: SilkDecoderState, rate: i32, subframes: i32, r: &Record) -> Sound
+    ensures { result ≡ sound_of s (call_of rate subframes (recorded_in r.now.bytes.now)) }
 {
-    if !record.is_received() {
+    if !r.is_received() {
         return lost_sound(s, rate, subframes);
     }
-    let q = record.params();
-    let c = record.control();
-    let rows = record.rows();
-    let lines = record.lines();
-    let pulses = record.pulses();
+    let q = r.params();
+    let c = r.control();
+    let rows = r.rows();
+    let lines = r.lines();
+    let pulses = r.pulses();
     let mut samples = [0; 320];
     let answer = received_frame(s, rate, subframes, q, c, rows, lines, &pulses, &mut samples);
     let state = state_left(s, answer);
@@ -98,14 +91,14 @@ fn play_frames(
 fn received_in(frames: &Frames) -> usize
     ensures { (result ≡ received_in (map (recorded_at frames.now.bytes.now) frames.now.records.now)) × (result ≤ length frames.now.records.now) }
 {
-    let mut count = 0;
-    for i in frames.records {
-        count += usize::from(frames.record(*i).is_received());
-    }
-    count
+    frames
+        .records
+        .iter()
+        .filter(|i| frames.record(**i).is_received())
+        .count()
 }
 
-// A recording's post, set up: no squelch, and the newer edition.
+// A recording's post; its settings stand here, not decoder::set_up's, so that a default that changes moves no recording.
 pub fn set_up_for(rate: i32, subframes: i32) -> Result<SilkDecoderState, Refusal>
     ensures { result ≡ set_up_with rate subframes plain }
 {
@@ -141,7 +134,7 @@ pub fn play(bytes: &[u8], output: &mut [i16]) -> Result<Played, Refusal>
     })
 }
 
-// Every frame of an accepted recording is played. The claim has no code: it is a contract.
+// Every frame of an accepted recording is played.
 pub fn recording_plays()
     ensures { RecordingPlays }
 {}

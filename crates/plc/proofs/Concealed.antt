@@ -10,10 +10,11 @@ use lib.Seq.{ext_get_or}
 use mir.Syntax.{w16, w32}
 use mir.Val.{SFits}
 use Rattle.word.specs.Int.{eq_ℤ}
+use Rattle.word.proofs.Fits.{drop-fits}
 use Rattle.macros.proofs.Ranges.{rand-fits}
 use Rattle.sigproc.proofs.Filter.{memory_length}
 use Rattle.sigproc.proofs.Shrink.{length-bwexpander}
-use Rattle.sigproc.proofs.Ranges.{drop-fits, bwexpander-fits, synthesis-fits}
+use Rattle.sigproc.proofs.Ranges.{bwexpander-fits, synthesis-fits}
 use Rattle.sigproc.proofs.Frames.{played-length, played-frame}
 use Rattle.shape.specs.Shape.{Shape, mem_length, subfr_length, lpc_order, frame_length}
 use Rattle.shape.proofs.Shapes.{Shaped}

@@ -10,10 +10,10 @@ use lib.Dec.{ltb}
 use lib.IntN.{ℤ, pos, negsuc, nat_abs, ◌-ℤ◌, ◌*ℤ◌, +ℤ_idl, +ℤ_idr}
 use lib.Signed.{lt_z}
 use mir.Syntax.{w16, w32}
-use mir.Val.{SFits}
 use Rattle.word.specs.Int.{floor_div, wrap16, min_ℤ, max_ℤ, eq_ℤ}
 use Rattle.word.proofs.Words.{wrap_id}
 use Rattle.word.proofs.Parts.{P, N, sub_parts_ℤ}
+use Rattle.word.proofs.Sizes.{abs-fits}
 use Rattle.macros.specs.Fixed.{smulwb, smulbb, smlawb}
 use Rattle.macros.proofs.Rounding.{round_at}
 use Rattle.stability.specs.Stability.{stability, inverse_gain}
@@ -61,21 +61,15 @@ limited l h (pos n) a = go (ltb h n) refl
     go false e = low n (ltb-false h n e)
 
 -- ---- products of a word and 16 bits
-word16 : (n : ℕ) → n < 32768 → SFits w16 (pos n)
-word16 n h = record { sfits = h }
-
-word32 : (n : ℕ) → n < 2147483648 → SFits w32 (pos n)
-word32 n h = record { sfits = h }
-
 smulwb_pos : (a b : ℕ) → b < 32768 → a * b / 65536 < 2147483648 → smulwb (pos a) (pos b) ≡ pos (a * b / 65536)
 unfolding smulwb
-smulwb_pos a b h k = rw (wrap_id (word16 b h)) (wrap_id (word32 _ k))
+smulwb_pos a b h k = rw (wrap_id (abs-fits {w = w16} (pos b) h)) (wrap_id (abs-fits {w = w32} _ k))
 
 -- ---- the pitch (Q8) grows and is capped
 pub drift : (r p : ℕ) → r ≤ 16 → 512 * r ≤ p → p ≤ 4608 * r → Between (512 * r) (4608 * r) (min_ℤ (smlawb (pos p) (pos p) (pos 655)) (pos (4608 * r)))
 unfolding smlawb
 drift r p hr l h =
-    rw (smulwb_pos p 655 (omega arith) (omega arith), wrap_id (word32 (p + p * 655 / 65536) (omega arith)))
+    rw (smulwb_pos p 655 (omega arith) (omega arith), wrap_id (abs-fits {w = w32} (pos (p + p * 655 / 65536)) (omega arith)))
     (min_between (512 * r) (4608 * r) (p + p * 655 / 65536) (omega arith) (omega arith))
 
 -- its lag

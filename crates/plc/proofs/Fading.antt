@@ -5,10 +5,9 @@ use native.Mathlib.Omega.{arith}
 use native.Mathlib.Nat.{mul-le-mul, div-le_of_le-mul, le_refl}
 use lib.IntN.{ℤ, pos, negsuc, nat_abs, *ℤ-zero}
 use mir.Syntax.{w16}
-use mir.Val.{SFits}
 use Rattle.word.specs.Int.{floor_div, wrap16}
 use Rattle.word.proofs.Words.{wrap_id}
-use Rattle.word.proofs.Sizes.{abs-parts, abs-div, abs-wrap}
+use Rattle.word.proofs.Sizes.{abs-parts, abs-fits, abs-div, abs-wrap}
 use Rattle.macros.specs.Fixed.{smulbb}
 use Rattle.macros.proofs.Scalars.{abs-smulbb}
 use Rattle.decoder.proofs.Between.{Between}
@@ -20,13 +19,10 @@ use Rattle.plc.proofs.Tap.{Middle}
 small_tap : (b : ℤ) → nat_abs b ≤ 11456 → Middle b
 small_tap b h = let k = abs-parts b in record { high = omega arith; low = omega arith }
 
-word_fits : (n : ℕ) → n < 32768 → SFits w16 (pos n)
-word_fits n h = record { sfits = h }
-
 -- the product of two numbers below 32,768, divided by m
 pub product : (m a b : ℕ) → a < 32768 → b < 32768 → a * b / m < 32768 → wrap16 (floor_div (smulbb (pos a) (pos b)) m) ≡ pos (a * b / m)
 unfolding smulbb
-product m a b h k l = rw (wrap_id (word_fits a h), wrap_id (word_fits b k)) (wrap_id (word_fits (a * b / m) l))
+product m a b h k l = rw (wrap_id (abs-fits {w = w16} (pos a) h), wrap_id (abs-fits {w = w16} (pos b) k)) (wrap_id (abs-fits {w = w16} (pos (a * b / m)) l))
 
 -- a number of 0 to B by a gain below one
 pub faded-upto : (B g n : ℕ) → g < 32768 → n ≤ B → B < 32768 → Between 0 B (faded (pos g) (pos n))
@@ -37,7 +33,7 @@ faded-upto B g n hg hn hB =
 
 pub faded_zero : (g : ℤ) → faded g (pos 0) ≡ pos 0
 unfolding faded smulbb
-faded_zero g = rw (wrap_id (word_fits 0 (omega arith)), *ℤ-zero (wrap16 g)) (wrap_id (word_fits 0 (omega arith)))
+faded_zero g = rw (wrap_id (abs-fits {w = w16} (pos 0) (omega arith)), *ℤ-zero (wrap16 g)) (wrap_id (abs-fits {w = w16} (pos 0) (omega arith)))
 
 -- what a gain below one leaves is no larger
 faded-size : (g : ℕ) (z : ℤ) → g < 32768 → nat_abs (faded (pos g) z) ≤ nat_abs z

@@ -18,7 +18,7 @@ use Rattle.word.proofs.Rows.{both}
 use Rattle.macros.specs.Fixed.{smulww}
 use Rattle.sigproc.specs.Energy.{energy_shift, sum_sqr_shift}
 use Rattle.sigproc.proofs.Energies.{shift_small}
-use Rattle.sigproc.proofs.Fill.{length-map}
+use Rattle.std.proofs.lemmas.List.{length-map}
 use Rattle.shape.specs.Shape.{Shape}
 use Rattle.shape.proofs.Shapes.{either}
 use Rattle.decoder.specs.Ranges.{subframes_held}
@@ -28,7 +28,7 @@ use Rattle.plc.specs.Conceal.{heard_by, heard, older_smaller, place_from, noise_
 
 pub length-heard_by : (gain : ℤ) (exc : List ℤ) → length (heard_by gain exc) ≡ length exc
 unfolding heard_by
-length-heard_by gain exc = length-map _ exc
+length-heard_by gain exc = length-map exc _
 
 pub heard_by_bounded : (gain : ℤ) (exc : List ℤ) → Bounded 32768 (heard_by gain exc)
 unfolding heard_by

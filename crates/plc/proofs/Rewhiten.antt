@@ -15,7 +15,7 @@ use Rattle.word.specs.Tabulate.{tabulate}
 use Rattle.word.proofs.Lists.{length-tabulate, get_or-tabulate}
 use Rattle.macros.specs.Fixed.{smulwb}
 use Rattle.sigproc.specs.Analysis.{products, residual, analysis}
-use Rattle.sigproc.proofs.Fill.{length-map, get_or-map}
+use Rattle.std.proofs.lemmas.List.{length-map, get_or-map}
 use Rattle.sigproc.proofs.Ranges.{length-analysis}
 use Rattle.plc.specs.Conceal.{AllZero}
 
@@ -80,7 +80,7 @@ module _ (buf z ob a : List ℤ) (inv : ℤ) (d mem lag : ℕ) (h : lag + d + 2 
       length-take-le (mem - from) (drop from given) (simp length-drop (rw given-length (omega arith)))
 
   divided-length : length divided ≡ mem - from
-  divided-length = length-map (smulwb inv) (mid_of from (mem - from) given) ∙ mid-length
+  divided-length = length-map (mid_of from (mem - from) given) (smulwb inv) ∙ mid-length
 
   -- a place
   sample_at : (i : ℕ) → i < mem → (t : Bool) → ltb i from ≡ t → AllZero buf → get_or (take from buf ++ divided) i (pos 0) ≡ cond t (pos 0) (smulwb inv (residual (take mem ob) a d i))
@@ -95,7 +95,7 @@ module _ (buf z ob a : List ℤ) (inv : ℤ) (d mem lag : ℕ) (h : lag + d + 2 
       let inside : i - from < mem - from = omega arith in
       ap (λ (n : ℕ). get_or (take from buf ++ divided) n (pos 0)) j
       ∙ get_or-append-add (take from buf) divided (i - from) (pos 0)
-      ∙ get_or-map (smulwb inv) (mid_of from (mem - from) given) (i - from) (rw mid-length inside)
+      ∙ get_or-map (smulwb inv) (mid_of from (mem - from) given) (i - from) (pos 0) (pos 0) (rw mid-length inside)
       ∙ ap (smulwb inv) (get_or-take (mem - from) (drop from given) (i - from) (pos 0) inside ∙ get_or-drop from given (i - from) (pos 0) ∙ rw m (written ob a (from - d) mem d i (omega arith) k z lent room))
 
   pub rewhitened-buffer : AllZero buf → take mem (put_mid from (mem - from) buf divided) ≡ tabulate mem (λ i. cond (ltb i from) (pos 0) (smulwb inv (residual (take mem ob) a d i)))

@@ -9,7 +9,6 @@ use lib.Dec.{ltb}
 use lib.IntN.{ℤ, pos, nat_abs, ◌*ℤ◌}
 use lib.Signed.{quot_z}
 use mir.Syntax.{w16}
-use mir.Val.{SFits}
 use Rattle.word.specs.Int.{floor_div, wrap16, max_ℤ}
 use Rattle.word.proofs.Parts.{P, N}
 use Rattle.word.proofs.Sizes.{abs-parts, abs-mul, abs-div, abs-fits, fits-abs}
@@ -21,9 +20,6 @@ pub record Middle (z : ℤ) : Type 0 where
   pub low : N z ≤ 11456
   pub high : P z ≤ 15565
 
-short : (n : ℕ) → n ≤ 32767 → SFits w16 (pos n)
-short n h = record { sfits = omega arith }
-
 -- a number within 11,456 of 0
 near : (z : ℤ) → nat_abs z ≤ 11456 → Middle (wrap16 z)
 near z h =
@@ -31,7 +27,7 @@ near z h =
 
 -- a number up to 15,565
 up_to : (n : ℕ) → n ≤ 15565 → Middle (wrap16 (pos n))
-up_to n h = rw (wrap_id {w = w16} {z = pos n} (short n (omega arith))) (record { low = omega arith; high = h })
+up_to n h = rw (wrap_id {w = w16} {z = pos n} (abs-fits (pos n) (omega arith))) (record { low = omega arith; high = h })
 
 -- a small sum times a quotient of 16 bits
 small : (n : ℕ) → n ≤ 358 → Middle (scaled_by 10 (pos 11469) (pos n))
@@ -40,7 +36,7 @@ small n h =
     let q = wrap16 (quot_z (pos 11469 *ℤ pos (2 ^ 10)) (max_ℤ (pos n) (pos 1))) in
     let z = pos n *ℤ q in
     let w = mul-le-mul h (fits-abs q (wrap-fits w16 _)) in
-    rw (wrap_id {w = w16} {z = pos n} (short n (omega arith)))
+    rw (wrap_id {w = w16} {z = pos n} (abs-fits (pos n) (omega arith)))
     (near (floor_div z (2 ^ 10)) (omega (arith, abs-div z (2 ^ 10) (omega arith), abs-mul (pos n) q)))
 
 quotient_short : (K n b : ℕ) → b ≤ n → K < b * 32768 → K / n < 32768
@@ -52,7 +48,7 @@ large : (q lim n b : ℕ) → 1 < n → n ≤ 32767 → b ≤ n → lim * 2 ^ q 
 unfolding scaled_by smulbb max_ℤ
 large q lim n b o h l k =
     let s = quotient_short (lim * 2 ^ q) n b l k in
-    rw (lt-ltb 1 n o, wrap_id {w = w16} {z = pos n} (short n h), wrap_id {w = w16} {z = pos (lim * 2 ^ q / n)} (short (lim * 2 ^ q / n) (omega arith)))
+    rw (lt-ltb 1 n o, wrap_id {w = w16} {z = pos n} (abs-fits (pos n) (omega arith)), wrap_id {w = w16} {z = pos (lim * 2 ^ q / n)} (abs-fits (pos (lim * 2 ^ q / n)) (omega arith)))
 
 pub tap_range : (n : ℕ) → n ≤ 32767 → Middle (scaled_tap (pos n))
 unfolding scaled_tap

@@ -10,6 +10,7 @@ use mir.Syntax.{w16, w32}
 use mir.Val.{SFits}
 use Rattle.word.specs.Int.{eq_ℤ}
 use Rattle.word.proofs.Words.{wrap-fits}
+use Rattle.word.proofs.Fits.{zero_fits, nil_fits, cons_fits, set-fits, replicate-fits}
 use Rattle.word.proofs.Parts.{P, N}
 use Rattle.word.proofs.Sizes.{abs-parts, abs-fits}
 use Rattle.shape.specs.Shape.{Shape, lpc_order, frame_length}
@@ -19,7 +20,7 @@ use Rattle.decoder.specs.declared.SilkPLCState.{SilkPLCState}
 use Rattle.decoder.specs.declared.SilkDecoderControl.{SilkDecoderControl}
 use Rattle.decoder.proofs.Between.{Between, AllBetween}
 use Rattle.decoder.proofs.Bounds.{TapBounds, SubframeBounds, PlcHeldBounds, PlcBounds}
-use Rattle.decoder.proofs.Types.{zero_fits, nil_fits, cons_fits, set-fits, replicate-fits, take_words}
+use Rattle.decoder.proofs.Types.{take_words}
 use Rattle.decoder.proofs.Built.{words, words-front, between_32}
 use Rattle.judge.specs.Taps.{tap_sum}
 use Rattle.plc.specs.Hold.{hold, plc_reset, plc_ready}
@@ -76,9 +77,6 @@ hold-bounds k pitch taps scale ltp gains subframes rate t =
 pair_fits : {a b : ℤ} → SFits w32 a → SFits w32 b → Words w32 2 (a ∷ b ∷ [])
 pair_fits {a} {b} h k = words refl (cons_fits (b ∷ []) h (cons_fits [] k nil_fits))
 
-word : (n : ℕ) → n < 2147483648 → SFits w32 (pos n)
-word n h = record { sfits = h }
-
 -- ---- five taps of which the middle one counts
 pub middle-bounds : (b : ℤ) → Middle b → TapBounds (middle b)
 middle-bounds b t = record { first = refl; second = refl; low = t.low; high = t.high; fourth = refl; fifth = refl }
@@ -95,11 +93,11 @@ module _ (p : Shape) (h : SilkPLCState) (q : Shaped p.rate p.subframes) (b : Plc
   reset_typed =
       let high = q.frame_high in
       let top = q.rate_high in
-      hold_typed t (word (frame_length p * 2 ^ 7) (omega arith)) t.ltp_coef_q14 t.prev_lpc_q12 t.rand_seed t.rand_scale_q14 t.prev_ltp_scale_q14
-      (pair_fits (word 65536 (omega arith)) (word 65536 (omega arith)))
-      (word p.rate (omega arith))
-      (word 2 (omega arith))
-      (word 20 (omega arith))
+      hold_typed t (abs-fits (pos (frame_length p * 2 ^ 7)) (omega arith)) t.ltp_coef_q14 t.prev_lpc_q12 t.rand_seed t.rand_scale_q14 t.prev_ltp_scale_q14
+      (pair_fits (abs-fits (pos 65536) (omega arith)) (abs-fits (pos 65536) (omega arith)))
+      (abs-fits (pos p.rate) (omega arith))
+      (abs-fits (pos 2) (omega arith))
+      (abs-fits (pos 20) (omega arith))
 
   ready_typed : TypedPlc (plc_ready p h)
   unfolding plc_ready
@@ -132,5 +130,5 @@ module _ (p : Shape) (h : SilkPLCState) (q : Shaped p.rate p.subframes) (b : Plc
         (wrap-fits w16 _)
         (pair_fits (between_32 (gain 0 (omega arith)) (omega arith)) (between_32 (gain 1 (omega arith)) (omega arith)))
         k.typed.fs_khz
-        (word _ (omega (arith, q.count_high)))
-        (word _ (omega (arith, q.rate_high)))
+        (abs-fits _ (omega (arith, q.count_high)))
+        (abs-fits _ (omega (arith, q.rate_high)))

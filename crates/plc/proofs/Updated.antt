@@ -1,6 +1,6 @@
 -- What concealment holds after a received frame stays in its ranges.
 use Prim.Native.Nat.{ℕ, zero, suc, ◌-◌, ◌*◌, ◌^◌, ◌<◌, ◌≤◌}
-use mathlib.Core.Path.{◌≡◌, refl, sym}
+use mathlib.Core.Path.{◌≡◌, refl}
 use mathlib.Core.Bool.{Bool, true, false, cond, ◌&&◌, false≢true}
 use mathlib.Core.List.{List, [], ◌∷◌}
 use native.Mathlib.Omega.{arith}
@@ -10,13 +10,12 @@ use lib.Signed.{lt_z}
 use mir.Syntax.{w16, w32}
 use mir.Val.{SFits}
 use Rattle.word.specs.Int.{eq_ℤ, wrap16, wrap32}
-use Rattle.word.proofs.Order.{eq_ℤ_true}
 use Rattle.word.proofs.Rows.{both}
 use Rattle.word.proofs.Words.{wrap_id}
 use Rattle.shape.specs.Shape.{Shape}
 use Rattle.shape.proofs.Shapes.{Shaped}
 use Rattle.decoder.proofs.Between.{Between, AllBetween}
-use Rattle.decoder.proofs.Bounds.{short, whole, PlcHeldBounds, PlcBounds}
+use Rattle.decoder.proofs.Bounds.{whole, PlcHeldBounds, PlcBounds}
 use Rattle.decoder.specs.declared.SilkPLCState.{SilkPLCState}
 use Rattle.decoder.specs.declared.SilkDecoderControl.{SilkDecoderControl}
 use Rattle.judge.specs.Taps.{tap_sum}
@@ -24,6 +23,7 @@ use Rattle.plc.specs.Hold.{plc_reset, plc_ready}
 use Rattle.plc.specs.Update.{stronger, strongest, pulse_of, plc_updated}
 use Rattle.plc.specs.declared.update.Pulse.{Pulse}
 use Rattle.plc.specs.declared.update.Strongest.{Strongest}
+use Rattle.plc.proofs.Ready.{reset_held, ready_held, ready_rate}
 use Rattle.plc.proofs.Tap.{Middle, tap_range}
 
 -- ---- the strongest subframe
@@ -84,38 +84,20 @@ module _ (p : Shape) (c : SilkDecoderControl) (pitch : ℤ) (rate : p.rate ≤ 1
 module _ (p : Shape) (h : SilkPLCState) (s : Shaped p.rate p.subframes) (b : PlcBounds p.rate h) where
   pub readied : PlcBounds p.rate (plc_ready p h) × PlcHeldBounds p.rate (plc_ready p h) × ((plc_ready p h).fs_khz ≡ pos p.rate)
   unfolding plc_ready plc_reset
-  readied = go (eq_ℤ (pos p.rate) h.fs_khz) refl
+  readied = (go (eq_ℤ (pos p.rate) h.fs_khz), ready_held p h s b, ready_rate p h)
     where
-      gains : AllBetween 65536 1686110208 (pos 65536 ∷ pos 65536 ∷ []) 2
-      gains zero k = record { is = refl; low = omega arith; high = omega arith }
-      gains (suc zero) k = record { is = refl; low = omega arith; high = omega arith }
-      gains (suc (suc i)) k = absurd (omega arith)
-
-      fresh : PlcHeldBounds p.rate (plc_reset p h)
-      fresh =
+      go : (t : Bool) → PlcBounds p.rate (cond t h (plc_reset p h))
+      go true = b
+      go false =
           record {
-            pitch_l_q8 = record { is = refl; low = omega (arith, s.frame_low); high = omega (arith, s.frame_high) };
-            prev_gain_q16 = gains;
-            subframes = short refl refl;
+            last_frame_lost = b.last_frame_lost;
+            ltp_coef_q14 = b.ltp_coef_q14;
+            rand_scale_q14 = b.rand_scale_q14;
+            prev_ltp_scale_q14 = b.prev_ltp_scale_q14;
+            conc_energy = b.conc_energy;
+            conc_energy_shift = b.conc_energy_shift;
+            held = λ k. reset_held p h s;
           }
-
-      go : (t : Bool) → eq_ℤ (pos p.rate) h.fs_khz ≡ t → let g = cond t h (plc_reset p h) in PlcBounds p.rate g × PlcHeldBounds p.rate g × (g.fs_khz ≡ pos p.rate)
-      go true e =
-          let k = sym (eq_ℤ_true (pos p.rate) h.fs_khz e) in
-          (b, b.held k, k)
-      go false e = (
-        record {
-          last_frame_lost = b.last_frame_lost;
-          ltp_coef_q14 = b.ltp_coef_q14;
-          rand_scale_q14 = b.rand_scale_q14;
-          prev_ltp_scale_q14 = b.prev_ltp_scale_q14;
-          conc_energy = b.conc_energy;
-          conc_energy_shift = b.conc_energy_shift;
-          held = λ k. fresh;
-        },
-        fresh,
-        refl,
-      )
 
   -- a received frame whose numbers are in their ranges
   module _ (voiced : Bool) (c : SilkDecoderControl) (row : List ℤ)

@@ -18,7 +18,7 @@ use Rattle.decoder.specs.declared.SilkPLCState.{SilkPLCState}
 use Rattle.decoder.specs.declared.SilkDecoderState.{SilkDecoderState}
 use Rattle.decoder.specs.declared.SilkDecoderControl.{SilkDecoderControl}
 use Rattle.judge.specs.Taps.{tap_sum}
-use Rattle.plc.specs.declared.conceal.Carried.{Carried}
+use Rattle.plc.specs.declared.conceal.VoiceState.{VoiceState}
 use Rattle.plc.specs.declared.conceal.Concealed.{Concealed}
 use Rattle.plc.specs.Hold.{hold, plc_ready}
 
@@ -108,7 +108,7 @@ pub record Voice : Type 0 where
   pub pitch : ℤ
   pub seed : ℤ
 
-abbrev pub voice_of : List ℤ → Carried → Voice
+abbrev pub voice_of : List ℤ → VoiceState → Voice
 voice_of past k =
     record { past = past; taps = k.taps; scale = k.scale_q14; pitch = k.pitch_q8; seed = k.seed }
 

@@ -29,7 +29,7 @@ use macros::{
 use refusal::Refusal;
 use shape::{FrameShape, Order, Rate, count_of};
 use sigproc::{
-    copy_at, ltp_prediction, scale_out, silk_bwexpander, silk_lpc_analysis_filter, synthesis,
+    copy_at, ltp_prediction, scale_out, silk_bwexpander, silk_lpc_analysis_filter, synthesis, weigh,
 };
 use stability::{Coefs, inverse_pred_gain};
 use word::{add32, low16, shl32, shr32, sub32, wide16};
@@ -60,6 +60,7 @@ fn by_loss(loss_cnt: i32, first: i32, later: i32) -> i32
     if loss_cnt == 0 { first } else { later }
 }
 
+#[tactic(auto, unfolding(crate::specs::Conceal::harm_gain))]
 fn harm_gain(loss_cnt: i32) -> i32
     ensures { result ≡ harm_gain loss_cnt }
 {
@@ -82,6 +83,7 @@ fn limited_gain(inv_gain_q30: i32) -> i32
     )
 }
 
+#[tactic(auto, unfolding(crate::specs::Conceal::noise_gain))]
 fn noise_gain(
     loss_cnt: i32,
     prev_signal_type: i32,
@@ -108,6 +110,7 @@ fn noise_gain(
     }
 }
 
+#[tactic(auto, unfolding(crate::specs::Conceal::faded))]
 fn faded(gain: i32, x: i16) -> i16
     ensures { result ≡ faded gain x }
 {
@@ -118,8 +121,8 @@ fn faded_taps(taps: [i16; 5], gain: i32) -> [i16; 5]
     ensures { result ≡ map (faded gain) taps }
 {
     let mut b = taps;
-    for (j, x) in b.iter_mut().enumerate() {
-        *x = faded(gain, taps[j]);
+    for x in b.iter_mut() {
+        *x = faded(gain, *x);
     }
     b
 }
@@ -183,16 +186,6 @@ fn noise_scale(
     }
 }
 
-// A part of the residual, divided by the gain.
-fn divide(part: &mut [i32], residual: &[i16], inv_gain_q30: i32)
-    requires { length part.old ≡ length residual.now }
-    ensures { part.new ≡ map (smulwb inv_gain_q30) residual.now }
-{
-    for (i, x) in part.iter_mut().enumerate() {
-        *x = silk_smulwb(inv_gain_q30, wide16(residual[i]));
-    }
-}
-
 // The history rewhitened and divided by the gain, as far back as a prediction reads.
 fn rewhiten(
     buf: &mut [i32; 640],
@@ -211,16 +204,16 @@ fn rewhiten(
     let start = from - order.size();
     let mut s_ltp = [0; 320];
     silk_lpc_analysis_filter(&mut s_ltp[start..mem], &out_buf[start..mem], a, order);
-    divide(
+    weigh(
         &mut buf[from..mem],
         &s_ltp[from..mem],
         inverse_gain(h.prev_gain_q16[1]),
     );
 }
 
-// What a subframe carries on beside the history.
+// What a subframe carries on beside the history, which with it is a Voice of the definitions.
 #[derive(Clone, Copy)]
-pub struct Carried {
+pub struct VoiceState {
     pub taps: [i16; 5],
     pub scale_q14: i16,
     pub pitch_q8: i32,
@@ -231,7 +224,7 @@ pub struct Carried {
 fn excite(
     buf: &mut [i32; 640],
     noise: &[i32; 128],
-    k: Carried,
+    k: VoiceState,
     lag: usize,
     at: usize,
     n: usize,
@@ -271,11 +264,11 @@ struct Fading {
 fn subframe(
     buf: &mut [i32; 640],
     noise: &[i32; 128],
-    k: Carried,
+    k: VoiceState,
     fading: Fading,
     frame: FrameShape,
     at: usize,
-) -> Carried
+) -> VoiceState
     requires { (20 * rate_of frame.fs_khz ≤ at) × (at + 5 * rate_of frame.fs_khz ≤ 640) × (pitched (rate_of frame.fs_khz) k.pitch_q8 ≡ true) }
     ensures { voice_of (take (at + 5 * rate_of frame.fs_khz) buf.new) result ≡ faded_voice (rate_of frame.fs_khz) fading.harm_gain_q15 fading.rand_gain_q15
         (excited_times noise.now 0 (nat_abs (lag_of k.pitch_q8)) (5 * rate_of frame.fs_khz) (voice_of (take at buf.old) k)) }
@@ -283,7 +276,7 @@ fn subframe(
     let pitch = k.pitch_q8;
     let lag = lag_of(pitch) as usize;
     let seed = excite(buf, noise, k, lag, at, Rate::subfr_length(frame.fs_khz));
-    Carried {
+    VoiceState {
         taps: faded_taps(k.taps, fading.harm_gain_q15),
         scale_q14: faded(fading.rand_gain_q15, k.scale_q14),
         pitch_q8: drifted(pitch, pitch_max_q8(frame.fs_khz)),
@@ -295,10 +288,10 @@ fn subframe(
 fn subframes(
     buf: &mut [i32; 640],
     noise: &[i32; 128],
-    k0: Carried,
+    k0: VoiceState,
     fading: Fading,
     frame: FrameShape,
-) -> Carried
+) -> VoiceState
     requires { pitched (rate_of frame.fs_khz) k0.pitch_q8 ≡ true }
     ensures { voice_of (take (20 * rate_of frame.fs_khz + 5 * rate_of frame.fs_khz * count_of frame.nb_subfr) buf.new) result
         ≡ voices (shape frame.fs_khz frame.nb_subfr) noise.now 0 fading.harm_gain_q15 fading.rand_gain_q15 (count_of frame.nb_subfr)
@@ -344,10 +337,11 @@ fn synthesise(
 }
 
 // What the first subframe starts from.
-fn starting(loss_cnt: i32, prev_signal_type: i32, h: SilkPLCState) -> Carried
+#[tactic(auto, unfolding(crate::specs::Conceal::noise_scale))]
+fn starting(loss_cnt: i32, prev_signal_type: i32, h: SilkPLCState) -> VoiceState
     ensures { result ≡ record { taps = h.ltp_coef_q14; scale_q14 = noise_scale loss_cnt prev_signal_type h; pitch_q8 = h.pitch_l_q8; seed = h.rand_seed } }
 {
-    Carried {
+    VoiceState {
         taps: h.ltp_coef_q14,
         scale_q14: noise_scale(
             loss_cnt,
@@ -383,7 +377,7 @@ fn voice(
     h: SilkPLCState,
     a: &[i16; 16],
     frame: FrameShape,
-) -> Carried
+) -> VoiceState
     requires { AllZero buf.old × (plc_held (rate_of frame.fs_khz) h ≡ true) }
     ensures { voice_of (take (20 * rate_of frame.fs_khz + 5 * rate_of frame.fs_khz * count_of frame.nb_subfr) buf.new) result
         ≡ voice_by (shape frame.fs_khz frame.nb_subfr) s.now.loss_cnt s.now.prev_signal_type s.now.settings.edition s.now.exc_q14 s.now.out_buf a.now
@@ -407,26 +401,26 @@ fn voice(
 }
 
 // What concealment holds after a frame.
-fn held_after(h: SilkPLCState, k: Carried, a: [i16; 16]) -> SilkPLCState
+fn held_after(h: SilkPLCState, k: VoiceState, a: [i16; 16]) -> SilkPLCState
     ensures { result ≡ hold h k.pitch_q8 k.taps a k.seed k.scale_q14 h.prev_ltp_scale_q14 h.prev_gain_q16 h.fs_khz h.nb_subfr h.subfr_length }
 {
     let taps = k.taps;
-    // With `..h` the proof would have to read back each number that is kept.
-    let mut t = h;
-    t.pitch_l_q8 = k.pitch_q8;
-    t.ltp_coef_q14 = taps;
-    t.prev_lpc_q12 = a;
-    t.rand_seed = k.seed;
-    t.rand_scale_q14 = k.scale_q14;
-    t
+    SilkPLCState {
+        pitch_l_q8: k.pitch_q8,
+        ltp_coef_q14: taps,
+        prev_lpc_q12: a,
+        rand_seed: k.seed,
+        rand_scale_q14: k.scale_q14,
+        ..h
+    }
 }
 
 // What a lost frame leaves beside its samples.
 #[derive(Clone, Copy)]
-pub struct Concealed {
-    pub plc: SilkPLCState,
-    pub memory: [i32; 16],
-    pub lag: i32,
+struct Concealed {
+    plc: SilkPLCState,
+    memory: [i32; 16],
+    lag: i32,
 }
 
 // A lost frame of a state; h is what concealment holds, ready for the frame's rate.
@@ -447,32 +441,9 @@ fn conceal(s: &SilkDecoderState, h: SilkPLCState, frame: FrameShape, xq: &mut [i
     }
 }
 
-// The state after a lost frame.
-fn lost_state(s: SilkDecoderState, r: Concealed) -> SilkDecoderState
-    requires { (le_z (pos 0) s.loss_cnt ≡ true) × (eq_ℤ s.loss_cnt (pos 2147483647) ≡ false) }
-    ensures { result ≡ with_plc (with_losses (with_memory s r.memory) (s.loss_cnt +ℤ pos 1)) r.plc }
-{
-    let memory = r.memory;
-    // With `..s` the proof would have to read back each number that is kept.
-    let mut t = s;
-    t.s_lpc_q14_buf = memory;
-    t.loss_cnt = add32(s.loss_cnt, 1);
-    t.s_plc = r.plc;
-    t
-}
-
-// A description with all four lags the same.
-fn lagged(c: SilkDecoderControl, lag: i32) -> SilkDecoderControl
-    ensures { result ≡ lagged c lag }
-{
-    SilkDecoderControl {
-        pitch_l: [lag; 4],
-        ..c
-    }
-}
-
 // What a lost frame changes of a state beside its count of losses, and its samples.
-pub fn conceal_frame(s: &SilkDecoderState, xq: &mut [i16]) -> Concealed
+// The rate and the count are the state's own: of a FrameShape beside it, two clauses more would have to say so.
+fn conceal_frame(s: &SilkDecoderState, xq: &mut [i16]) -> Concealed
     requires { (is_rate s.now.fs_khz ≡ true) × (is_count s.now.nb_subfr ≡ true) × (plc_fits (rate_of s.now.fs_khz) s.now.s_plc ≡ true)
         × (frame_length (shape_of s.now) ≤ length xq.old) }
     ensures { let p = shape_of s.now in
@@ -488,20 +459,35 @@ pub fn conceal_frame(s: &SilkDecoderState, xq: &mut [i16]) -> Concealed
     conceal(s, h, frame, xq)
 }
 
-pub fn plc_conceal(s: SilkDecoderState, c: SilkDecoderControl, xq: &mut [i16]) -> Answer
-    requires { (is_rate s.fs_khz ≡ true) × (is_count s.nb_subfr ≡ true) × (plc_fits (rate_of s.fs_khz) s.s_plc ≡ true)
-        × (le_z (pos 0) s.loss_cnt ≡ true) × (eq_ℤ s.loss_cnt (pos 2147483647) ≡ false) × (frame_length (shape_of s) ≤ length xq.old) }
-    ensures { (result ≡ record { state = (plc_conceal (shape_of s) s c).state; control = (plc_conceal (shape_of s) s c).control })
-        × (xq.new ≡ (plc_conceal (shape_of s) s c).samples ++ drop (frame_length (shape_of s)) xq.old) }
+// What concealment changes: its memory, the count of losses, what it holds, and the lags.
+fn leave(a: &mut Answer, r: Concealed)
+    requires { (le_z (pos 0) a.old.state.loss_cnt ≡ true) × (eq_ℤ a.old.state.loss_cnt (pos 2147483647) ≡ false) }
+    ensures { a.new ≡ record {
+      state = with_plc (with_losses (with_memory a.old.state r.memory) (a.old.state.loss_cnt +ℤ pos 1)) r.plc;
+      control = lagged a.old.control r.lag;
+    } }
 {
-    let r = conceal_frame(&s, xq);
-    Answer {
-        state: lost_state(s, r),
-        control: lagged(c, r.lag),
-    }
+    let memory = r.memory;
+    a.state.s_lpc_q14_buf = memory;
+    a.state.loss_cnt = add32(a.state.loss_cnt, 1);
+    a.state.s_plc = r.plc;
+    a.control.pitch_l = [r.lag; 4];
+}
+
+#[tactic(auto, unfolding(crate::specs::Conceal::plc_conceal))]
+pub fn plc_conceal(a: &mut Answer, xq: &mut [i16])
+    requires { (is_rate a.old.state.fs_khz ≡ true) × (is_count a.old.state.nb_subfr ≡ true) × (plc_fits (rate_of a.old.state.fs_khz) a.old.state.s_plc ≡ true)
+        × (le_z (pos 0) a.old.state.loss_cnt ≡ true) × (eq_ℤ a.old.state.loss_cnt (pos 2147483647) ≡ false) × (frame_length (shape_of a.old.state) ≤ length xq.old) }
+    ensures { let s = a.old.state in
+        let o = plc_conceal (shape_of s) s a.old.control in
+        (a.new.state ≡ o.state) × (a.new.control ≡ o.control) × (xq.new ≡ o.samples ++ drop (frame_length (shape_of s)) xq.old) }
+{
+    let r = conceal_frame(&a.state, xq);
+    leave(a, r);
 }
 
 // A lost frame as a call: refused, it changes nothing.
+#[tactic(auto, using(refusal::proofs::Clear::at_err), unfolding(crate::specs::Answer::plc_lost_refusal, crate::specs::Answer::plc_lost, crate::specs::Answer::plc_lost_output))]
 pub fn silk_plc_lost(
     s: SilkDecoderState,
     c: SilkDecoderControl,
@@ -510,5 +496,10 @@ pub fn silk_plc_lost(
     ensures { (result ≡ plc_lost s c xq.old) × (xq.new ≡ plc_lost_output s c xq.old) }
 {
     judge::plc_lost(&s, xq.len())?;
-    Ok(plc_conceal(s, c, xq))
+    let mut a = Answer {
+        state: s,
+        control: c,
+    };
+    plc_conceal(&mut a, xq);
+    Ok(a)
 }

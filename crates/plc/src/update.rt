@@ -6,7 +6,6 @@ ghost use Rattle.word.specs.Int.{sat16, wrap16, floor_div, mod_ℤ, max_ℤ};
 ghost use Rattle.macros.specs.Fixed.{smulww, smulbb};
 ghost use Rattle.sigproc.specs.Energy.{sum_sqr_shift};
 ghost use Rattle.shape.specs.Shape.{shape, rate_of, count_of};
-ghost use Rattle.decoder.specs.Signals.{signal_number};
 ghost use Rattle.decoder.specs.State.{shape_of};
 ghost use Rattle.plc.specs.Hold.{shape_at, plc_ready};
 ghost use Rattle.plc.specs.Update.{stronger, strongest, scaled_tap, pulse_of, middle, plc_updated, updated_by, plc_update};
@@ -19,10 +18,10 @@ use macros::{silk_div32, silk_max_32, silk_smulbb, silk_smulww};
 use refusal::Refusal;
 use shape::{Rate, rate_of};
 use sigproc::{Energy, silk_sum_sqr_shift, with_front};
-use word::{low16, mul32, sat16, shl32, shr32, wide8};
+use word::{low16, mul32, sat16, shl32, shr32};
 
 // If its rate differs, concealment resets.
-// The rate and the count stand apart in this file: a FrameShape would ask callers of the public functions for a rate.
+// The rate and the count stand apart in this file: its functions hold at every number, and a FrameShape asks for one of the rates.
 pub fn ready(h: SilkPLCState, khz: i32, subframes: usize) -> SilkPLCState
     requires { subframes ≤ 4 }
     ensures { result ≡ plc_ready (shape_at khz subframes) h }
@@ -31,14 +30,14 @@ pub fn ready(h: SilkPLCState, khz: i32, subframes: usize) -> SilkPLCState
     if rate == h.fs_khz {
         return h;
     }
-    // With `..h` the proof would have to read back each number that is kept.
-    let mut t = h;
-    t.pitch_l_q8 = (Rate::subfr_length(khz) * subframes * 128) as i32;
-    t.prev_gain_q16 = [65536, 65536];
-    t.fs_khz = rate;
-    t.nb_subfr = 2;
-    t.subfr_length = 20;
-    t
+    SilkPLCState {
+        pitch_l_q8: (Rate::subfr_length(khz) * subframes * 128) as i32,
+        prev_gain_q16: [65536, 65536],
+        fs_khz: rate,
+        nb_subfr: 2,
+        subfr_length: 20,
+        ..h
+    }
 }
 
 // Excitation as it was played by a gain (Q10).
@@ -53,6 +52,7 @@ fn heard(part: &mut [i16], exc: &[i32], gain_q16: i32)
     ensures { part.new ≡ heard_by gain_q16 exc.now }
 {
     let gain_q10 = shr32(gain_q16, 6);
+    // Not a zip: after one over `iter_mut` only the length of part is known.
     for (i, x) in part.iter_mut().enumerate() {
         *x = heard_sample(exc[i], gain_q10);
     }
@@ -79,8 +79,7 @@ fn before_end(k: usize, l: usize) -> usize
     requires { k * l ≤ 320 }
     ensures { result ≡ k * l - 128 }
 {
-    let n = k * l;
-    if n > 128 { n - 128 } else { 0 }
+    (k * l).saturating_sub(128)
 }
 
 // Where noise is drawn from; m and held are the subframes that concealment holds and their length.
@@ -104,6 +103,7 @@ pub struct Strongest {
     pub pitch: i32,
 }
 
+#[tactic(auto, unfolding(crate::specs::Update::stronger))]
 fn stronger(b: Strongest, reached: bool, sum: i32, lag: i32) -> Strongest
     ensures { result ≡ stronger b reached sum lag }
 {
@@ -131,9 +131,7 @@ fn strongest_subframe(
     let l = Rate::subfr_length(khz);
     let last = lags[subframes - 1];
     let mut b = Strongest { gain: 0, pitch };
-    // By index: the turn counts from the newest subframe, and gives its distance in samples.
-    for j in 0..subframes {
-        let k = subframes - 1 - j;
+    for (j, k) in (0..subframes).rev().enumerate() {
         let start = (j * l) as i32;
         b = stronger(b, start < last, tap_sum(taps, k), lags[k]);
     }
@@ -141,6 +139,7 @@ fn strongest_subframe(
 }
 
 // The sum times whole / sum, a quotient with q places.
+#[tactic(auto, using(crate::proofs::Numbers::max_one, macros::proofs::Normal::quot_fits))]
 fn scaled_by(whole: i32, q: i32, sum: i32) -> i16
     requires { nat_abs whole < 2 ^ 31 }
     ensures { result ≡ wrap16 (floor_div (smulbb sum (quot_z whole (max_ℤ sum (pos 1)))) (2 ^ mod_ℤ q 32)) }
@@ -173,12 +172,14 @@ pub struct Pulse {
 }
 
 // The largest pitch (Q8): 18 ms.
+#[tactic(auto, using(decoder::proofs::Tests::lag_q8))]
 pub fn pitch_max_q8(khz: i32) -> i32
     ensures { result ≡ pos (4608 * rate_of khz) }
 {
     mul32(256, Rate::lag_max(khz))
 }
 
+#[tactic(auto, unfolding(crate::specs::Update::pulse_of))]
 fn pulse_of(voiced: bool, c: SilkDecoderControl, khz: i32, subframes: usize, pitch: i32) -> Pulse
     requires { (1 ≤ subframes) × (subframes ≤ 4) }
     ensures { result ≡ pulse_of (shape_at khz subframes) voiced c pitch }
@@ -224,16 +225,16 @@ pub fn plc_updated(
 {
     let n = shape::count_of(nb_subfr);
     let b = pulse_of(voiced, c, khz, n, h.pitch_l_q8);
-    // With `..h` the proof would have to read back each number that is kept.
-    let mut t = h;
-    t.pitch_l_q8 = b.pitch;
-    t.ltp_coef_q14 = middle(b.tap);
-    t.prev_lpc_q12 = with_front(h.prev_lpc_q12, row, Rate::lpc_order(khz));
-    t.prev_ltp_scale_q14 = low16(c.ltp_scale_q14);
-    t.prev_gain_q16 = last_gains(c.gains_q16, n);
-    t.nb_subfr = n as i32;
-    t.subfr_length = Rate::subfr_length(khz) as i32;
-    t
+    SilkPLCState {
+        pitch_l_q8: b.pitch,
+        ltp_coef_q14: middle(b.tap),
+        prev_lpc_q12: with_front(h.prev_lpc_q12, row, Rate::lpc_order(khz)),
+        prev_ltp_scale_q14: low16(c.ltp_scale_q14),
+        prev_gain_q16: last_gains(c.gains_q16, n),
+        nb_subfr: n as i32,
+        subfr_length: Rate::subfr_length(khz) as i32,
+        ..h
+    }
 }
 
 // What concealment holds after a received frame.
@@ -252,13 +253,6 @@ pub fn received(
     plc_updated(h, khz, nb_subfr, is_voiced(signal), c, rows[1])
 }
 
-// The number of a signal type, in 32 bits. Decoder's `From` is the one to 8 bits, and a call of both in its place is no plainer.
-pub fn type_number(signal: Signal) -> i32
-    ensures { result ≡ signal_number signal }
-{
-    wide8(i8::from(signal))
-}
-
 fn plc_update(
     s: SilkDecoderState,
     signal: Signal,
@@ -268,14 +262,15 @@ fn plc_update(
     requires { 2 ≤ count_of s.nb_subfr }
     ensures { result ≡ plc_update (shape_of s) s signal c rows }
 {
-    // With `..s` the proof would have to read back each number that is kept.
-    let mut t = s;
-    t.prev_signal_type = type_number(signal);
-    t.s_plc = received(s.s_plc, s.fs_khz, s.nb_subfr, signal, c, rows);
-    t
+    SilkDecoderState {
+        prev_signal_type: i32::from(signal),
+        s_plc: received(s.s_plc, s.fs_khz, s.nb_subfr, signal, c, rows),
+        ..s
+    }
 }
 
 // A received frame as a call: refused, it changes nothing.
+#[tactic(auto, using(refusal::proofs::Clear::answered_err, refusal::proofs::Clear::answered_ok), unfolding(crate::specs::Answer::plc_received))]
 pub fn silk_plc_received(
     s: SilkDecoderState,
     q: Params,

@@ -1,4 +1,5 @@
-// The functions that a Rust program links, and a C program by post_c. A contract is one equation: the answer and the slices at exit are those of the call's definition.
+// The functions that a Rust program links, and a C program by post_c.
+// A contract is one equation: the answer and the slices at exit are those of the call's definition.
 #![tactic(auto)]
 
 ghost use Rattle.std.specs.Prelude.{◌≡◌, [], pos, length};
@@ -56,6 +57,7 @@ pub fn post_set_up_with(
     set_up(rate, subframes, settings, words, halves)
 }
 
+// post_core has this body but for the call in its last line: one function of both would take that call as a closure, and its contract beside it.
 #[tactic(auto, using(layout::proofs::Slices::call_long), unfolding(crate::specs::Stages::frame_call, crate::specs::Calls::called))]
 pub fn post_frame(
     words: &mut [i32],

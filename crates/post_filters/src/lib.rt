@@ -81,6 +81,7 @@ pub fn post_rising(lines: &[i16], order: usize, answer: &mut [i32]) -> i32
 }
 
 // post_rising writes 1 exactly if the lines rise, and then post_filter does not answer 9 for them.
+#[tactic(auto, using(crate::proofs::Told::rising_told))]
 pub fn rising_told()
     ensures { RisingTold }
 {}

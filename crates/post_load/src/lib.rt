@@ -1,4 +1,5 @@
-// The functions of a load, which crate `post_load_c` exports for a Rust or C program. A contract is one equation: the answer and the slices at exit are those of the call's definition.
+// The functions of a load, which crate `post_load_c` exports for a Rust or C program.
+// A contract is one equation: the answer and the slices at exit are those of the call's definition.
 #![tactic(auto)]
 
 ghost use Rattle.std.specs.Prelude.{◌≡◌, false, length};
@@ -47,6 +48,7 @@ fn put_load(
     copy_at(pulses, 0, &p);
 }
 
+// C interface: its parameters are post_load_c's.
 pub fn post_load_frame(
     rate: i32,
     subframes: i32,

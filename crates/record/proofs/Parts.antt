@@ -1,16 +1,20 @@
 -- The parts of a received frame's bytes: their lengths, and how they are stored.
-use Prim.Native.Nat.{ℕ, ◌+◌, ◌≤◌}
-use mathlib.Core.Path.{◌≡◌, refl, ap, ◌∙◌}
-use mathlib.Core.List.{List, [], ◌∷◌, ◌++◌, append_assoc, append-nil}
+use Prim.Native.Nat.{ℕ, ◌≤◌}
+use mathlib.Core.Path.{◌≡◌, refl, ◌∙◌}
+use mathlib.Core.List.{List, [], ◌∷◌}
 use lib.IntN.{ℤ}
 use lib.ListN.{length, get_or, drop, length-replicate}
-use mir.Syntax.{w16, w32}
-use Rattle.le.specs.Bytes.{bytes_of, packed, joined, with_bytes}
-use Rattle.le.proofs.Packing.{length-packed}
+use mir.Syntax.{Width, w16, w32}
+use Rattle.le.specs.Bytes.{bytes_in, signed_at, words_at, words_by, joined, with_bytes}
+use Rattle.le.proofs.Packing.{length-packed, words_are}
 use Rattle.le.proofs.Joining.{Sized, length-joined, stored, stored_all}
 use Rattle.decoder.specs.declared.Params.{Params}
 use Rattle.decoder.specs.declared.SilkDecoderControl.{SilkDecoderControl}
 use Rattle.record.specs.Recorded.{Recorded, lost, received, small_bytes, parts, record_bytes}
+
+-- words read one behind the other
+pub words_got : (w : Width) (b : List ℕ) (at n : ℕ) {x : List ℤ} → x ≡ words_by (signed_at w) (bytes_in w) b at n → x ≡ words_at w b at n
+words_got w b at n e = e ∙ words_are w b at n
 
 -- the parts' lengths
 abbrev pub sizes : List ℕ

@@ -1,5 +1,5 @@
 // A frame's 817 bytes, from its kind on, in a recorded stream's record and in a yard recording's.
-// Inner: every function.
+// Inner: every function but both_ways.
 #![tactic(auto)]
 
 ghost use Rattle.std.specs.Prelude.{◌≡◌, ◌+◌, ◌≤◌, length};
@@ -9,7 +9,7 @@ ghost use Rattle.record.specs.Record.{is_received, params_in, frame_in, control_
 ghost use Rattle.record.specs.Recorded.{received, small_bytes, record_bytes};
 ghost use Rattle.record.specs.Claims.{WrittenIsRead, ReadIsWritten};
 
-use decoder::{Frame, Params, Signal, SilkDecoderControl};
+use decoder::{Frame, Params, Signal, SilkDecoderControl, SilkDecoderState};
 use le::{Word, put_bytes, put_words, words_at};
 
 // The count of a record's bytes.
@@ -52,6 +52,7 @@ impl Record<'_> {
         Frame::Lost
     }
 
+    #[tactic(auto, using(crate::proofs::Parts::words_got, word::proofs::Words::kept), unfolding(crate::specs::Record::control_in))]
     pub fn control(&self) -> SilkDecoderControl
         ensures { result ≡ control_in self.now.bytes.now }
     {
@@ -65,23 +66,33 @@ impl Record<'_> {
     }
 
     // The coefficient rows.
+    #[tactic(auto, using(crate::proofs::Parts::words_got), unfolding(crate::specs::Record::rows_in))]
     pub fn rows(&self) -> [[i16; 16]; 2]
         ensures { result ≡ rows_in self.now.bytes.now }
     {
         [words_at(self.bytes, 37), words_at(self.bytes, 69)]
     }
 
+    #[tactic(auto, using(crate::proofs::Parts::words_got), unfolding(crate::specs::Record::lines_in))]
     pub fn lines(&self) -> [i16; 16]
         ensures { result ≡ lines_in self.now.bytes.now }
     {
         words_at(self.bytes, 145)
     }
 
+    #[tactic(auto, using(crate::proofs::Parts::words_got), unfolding(crate::specs::Record::pulses_in))]
     pub fn pulses(&self) -> [i16; 320]
         ensures { result ≡ pulses_in self.now.bytes.now }
     {
         words_at(self.bytes, 177)
     }
+}
+
+// What is heard of a recorded frame: the state that it leaves, and its samples, of which the first 5rn are played.
+#[derive(Clone, Copy)]
+pub struct Sound {
+    pub state: SilkDecoderState,
+    pub samples: [i16; 320],
 }
 
 // The kind and the small numbers of a received frame.
@@ -109,7 +120,7 @@ fn put_row(to: &mut [u8], at: usize, row: [i16; 16])
     put_words(to, at, &row);
 }
 
-// A received frame's bytes, stored from place at on. Document 01 has a frame's parts beside one another, and so has each caller.
+// A received frame's bytes, stored from place at on, by its parts as document 01 and each caller have them.
 pub fn put_received(
     to: &mut [u8],
     at: usize,
@@ -136,7 +147,7 @@ pub fn put_received(
     put_words(to, at + 177, pulses);
 }
 
-// What is written is read, a signal type being its number, and what is read is written. The claims have no code: each is a contract.
+// What is written is read, a signal type being its number, and what is read is written.
 pub fn both_ways()
     ensures { WrittenIsRead × ReadIsWritten }
 {}

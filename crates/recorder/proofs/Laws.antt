@@ -14,6 +14,7 @@ use Rattle.le.specs.Bytes.{bytes_of, bytes_in, packed, joined, with_bytes}
 use Rattle.le.proofs.Places.{with-more}
 use Rattle.std.specs.Prelude.{Ok, Err, codes}
 use Rattle.std.specs.Result.{IsErrAnd}
+use Rattle.std.proofs.lemmas.Bool.{and_parts}
 use Rattle.refusal.specs.First.{◌gives◌, first_of}
 use Rattle.refusal.specs.Refusals.{Judged, code_of}
 use Rattle.refusal.specs.declared.Refusal.{Refusal}
@@ -36,14 +37,6 @@ module _ (new old : List ℕ) where
 
   pub left-accepted : {j : Judged} → j ≡ Ok tt → record { judged = Ok tt; bytes = new } ≡ left j new old
   left-accepted {j} h = ap (λ (x : Judged). left x new old) (sym h)
-
-both : (a b : Bool) → (a && b) ≡ true → a ≡ true
-both true b e = refl
-both false b e = absurd (false≢true e)
-
-second : (a b : Bool) → (a && b) ≡ true → b ≡ true
-second true b e = e
-second false b e = absurd (false≢true e)
 
 -- a lost frame brings no pulses
 pub no_more : (a : Bool) → a ≡ (a && has_pulses lost)
@@ -91,13 +84,13 @@ module _ (khz nb : ℤ) (b : List ℕ) (n : ℕ) (x : Recorded) where
     -- then there is room, and record 0's rows come
     module _ (h : q ≡ Ok tt) where
       pub has : has_room (length b) n ≡ true
-      has = both (has_room (length b) n) (has_pulses x) (passes h)
+      has = (and_parts (has_room (length b) n) (has_pulses x) (passes h)).0
 
       pub roomy : Room (length b) n
       roomy = room (length b) n has
 
       pub pulses-are : has_pulses x ≡ true
-      pulses-are = second (has_room (length b) n) (has_pulses x) (passes h)
+      pulses-are = (and_parts (has_room (length b) n) (has_pulses x) (passes h)).1
 
       head : append_refusal khz nb b n x ≡ first_then (head_rows khz nb b) (described (shape khz nb) x)
       unfolding append_refusal

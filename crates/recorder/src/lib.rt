@@ -93,7 +93,7 @@ pub fn append_lost(
     Ok(())
 }
 
-// A received frame's record, the last. Document 01 has a frame's parts beside one another.
+// A received frame's record, the last, by its parts as document 01 has them.
 fn put_frame(
     bytes: &mut [u8],
     at: usize,

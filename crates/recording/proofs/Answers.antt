@@ -1,12 +1,13 @@
 -- What is read of a recording, refused or not.
 use Prim.Native.Nat.{ℕ, ◌≤◌, ◌<◌}
 use mathlib.Core.Path.{◌≡◌, refl, sym, ap}
-use mathlib.Core.Bool.{Bool, true, false, not, ◌&&◌, false≢true}
+use mathlib.Core.Bool.{Bool, true, false, not, ◌&&◌}
 use mathlib.Core.List.{List, [], ◌∷◌}
 use native.Mathlib.Omega.{arith}
 use borrow.Author.Tests.{not-false}
 use lib.ListN.{length}
 use Rattle.std.specs.Prelude.{Ok, Err}
+use Rattle.std.proofs.lemmas.Bool.{and_parts}
 use Rattle.refusal.specs.First.{◌gives◌, first_of}
 use Rattle.refusal.specs.Refusals.{Judged, code_of}
 use Rattle.refusal.specs.declared.Refusal.{Refusal}
@@ -20,10 +21,6 @@ use Rattle.recording.specs.Frames.{is_head, are_frames, rate_in, count_in, frame
 use Rattle.recording.specs.Rows.{first_then}
 use Rattle.recording.specs.Reading.{read_refusal, read_of}
 use Rattle.recording.proofs.Rows.{clear_then, row_met, row-unmet}
-
-both : (a b : Bool) → (a && b) ≡ true → (a ≡ true) × (b ≡ true)
-both true b e = (refl, e)
-both false b e = absurd (false≢true e)
 
 module _ (b : List ℕ) where
   pub not_whole : is_whole (length b) ≡ false → read_refusal b ≡ Err Record
@@ -112,7 +109,7 @@ module _ (b : List ℕ) where
   rows-clear a =
       let k = clear_then ((not (is_whole (length b)) gives Record) ∷ (is_broken (chain_of b) gives Chain) ∷ (not (is_head b && are_frames b (on_chain (chain_of b))) gives Record) ∷ (not (is_rate (rate_in b)) gives Rate) ∷ (not (is_count (count_in b)) gives Size) ∷ []) (described_all (shape (rate_in b) (count_in b)) (frames_in b)) a in
       let c = k.0 in
-      let h = both (is_head b) (are_frames b (on_chain (chain_of b))) (not-false (is_head b && are_frames b (on_chain (chain_of b))) c.1.1.0) in
+      let h = and_parts (is_head b) (are_frames b (on_chain (chain_of b))) (not-false (is_head b && are_frames b (on_chain (chain_of b))) c.1.1.0) in
       record {
         whole = not-false (is_whole (length b)) c.0;
         chain = c.1.0;

@@ -13,7 +13,7 @@ ghost use Rattle.recording.specs.Reading.{read_of};
 use chain::{chain, is_whole};
 use judge::description;
 use le::stands_at;
-use record::Record;
+use record::{Record, SIZE};
 use refusal::{Refusal, earlier, refuse_if};
 
 // The mark of record 0, behind its next number.
@@ -86,41 +86,31 @@ fn is_frame(bytes: &[u8], i: u8) -> bool
 {
     let at = 1024 * usize::from(i) + 2;
     if bytes[at] == 1 {
-        zeros(bytes, at + 817, 205)
+        zeros(bytes, at + SIZE, 205)
     } else {
         zeros(bytes, at, 1022)
     }
 }
 
-// The last of the records first.
 fn are_frames(frames: &Frames) -> bool
     ensures { result ≡ are_frames frames.now.bytes.now frames.now.records.now }
 {
-    let mut ok = true;
-    for i in frames.records.iter().rev() {
-        ok = is_frame(frames.bytes, *i) & ok;
-    }
-    ok
+    frames.records.iter().all(|i| is_frame(frames.bytes, *i))
 }
 
 // Rows 5 to 9 of a frame.
 #[tactic(auto, unfolding(crate::specs::Frames::described, record::specs::Recorded::recorded_in))]
-fn described(khz: i32, nb_subfr: i32, record: &Record) -> Result<(), Refusal>
-    ensures { result ≡ described (shape khz nb_subfr) (recorded_in record.now.bytes.now) }
+fn described(khz: i32, nb_subfr: i32, r: &Record) -> Result<(), Refusal>
+    ensures { result ≡ described (shape khz nb_subfr) (recorded_in r.now.bytes.now) }
 {
-    if record.is_received() {
-        return description(
-            khz,
-            nb_subfr,
-            record.params(),
-            &record.control(),
-            &record.lines(),
-        );
+    if r.is_received() {
+        return description(khz, nb_subfr, r.params(), &r.control(), &r.lines());
     }
     Ok(())
 }
 
-// The last of the records first.
+// The last of the records first. The library's `fold` would hold the same line in a closure, and the fact that each record lies within the bytes
+// would be shown of each of its calls, with what it carries.
 fn described_all(khz: i32, nb_subfr: i32, frames: &Frames) -> Result<(), Refusal>
     ensures { result ≡ described_all (shape khz nb_subfr) (map (recorded_at frames.now.bytes.now) frames.now.records.now) }
 {
@@ -149,9 +139,9 @@ pub fn read(bytes: &[u8]) -> Result<Recording, Refusal>
     ensures { result ≡ read_of bytes.now }
 {
     refuse_if(!is_whole(bytes.len()), Refusal::Record)?;
-    let order = chain(bytes).ok_or(Refusal::Chain)?;
-    let records = order.records;
-    let frames = order.frames;
+    let route = chain(bytes).ok_or(Refusal::Chain)?;
+    let records = route.records;
+    let frames = route.frames;
     let rate = i32::from(bytes[6]);
     let subframes = i32::from(bytes[7]);
     let along = Frames {

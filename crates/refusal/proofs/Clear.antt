@@ -9,6 +9,7 @@ use lib.Dec.{leb, lit≤}
 use native.Mathlib.Omega.{arith}
 use Rattle.std.specs.Prelude.{Result, Ok, Err, is_ok}
 use Rattle.std.specs.Result.{IsErrAnd}
+use Rattle.std.proofs.lemmas.Bool.{and_parts}
 use Rattle.std.proofs.lemmas.Result.{err_from_is_err_and}
 use Rattle.refusal.specs.First.{Row, ◌gives◌, first_of}
 use Rattle.refusal.specs.Refusals.{refusal_number, Judged, code_of, if_accepted, answered}
@@ -116,15 +117,11 @@ abbrev pub from : ℕ → List Row → Bool
 from k [] = true
 from k (r ∷ rs) = leb k (refusal_number r.refusal) && from k rs
 
-both : (a b : Bool) → (a && b) ≡ true → (a ≡ true) × (b ≡ true)
-both true b e = (refl, e)
-both false b e = absurd (false≢true e)
-
 pub refused-from : (k : ℕ) (rows : List Row) → from k rows ≡ true → (code_of (first_of rows) ≡ 0) ⊎ (k ≤ code_of (first_of rows))
 unfolding first_of
 refused-from k [] e = inl refl
 refused-from k (r ∷ rs) e =
-    let b = both (leb k (refusal_number r.refusal)) (from k rs) e in
+    let b = and_parts (leb k (refusal_number r.refusal)) (from k rs) e in
     go r.applies (leb-true k _ b.0) (refused-from k rs b.1)
   where
     go : (b : Bool) → k ≤ refusal_number r.refusal → (code_of (first_of rs) ≡ 0) ⊎ (k ≤ code_of (first_of rs)) → (code_of (cond b (Err r.refusal) (first_of rs)) ≡ 0) ⊎ (k ≤ code_of (cond b (Err r.refusal) (first_of rs)))

@@ -2,7 +2,7 @@
 // Inner: every function.
 #![tactic(auto)]
 
-ghost use Rattle.std.specs.Prelude.{◌≡◌, [], ◌∷◌, pos, codes};
+ghost use Rattle.std.specs.Prelude.{◌≡◌, [], ◌∷◌, Some, pos, codes};
 ghost use Rattle.refusal.specs.Refusals.{refusal_number, refusal_word, code_of};
 ghost use Rattle.refusal.specs.First.{◌gives◌, first_of, earlier};
 
@@ -36,7 +36,7 @@ pub enum Refusal {
 }
 
 impl Refusal {
-    // A row's number.
+    // A method and no `From`, since `u8::from` does not say that the number is the row's.
     pub fn number(self) -> u8
         ensures { result ≡ refusal_number self }
     {
@@ -67,7 +67,7 @@ impl Refusal {
         }
     }
 
-    // A row's word.
+    // A row's word, which `Display` writes: without a heap the text itself is to be had only here.
     pub fn word(self) -> &'static str
         ensures { result.now ≡ codes (refusal_word self) }
     {
@@ -100,6 +100,8 @@ impl Refusal {
 }
 
 impl fmt::Display for Refusal {
+    ghost output = { λ r. Some (codes (refusal_word r)) };
+
     fn fmt<W: fmt::Write>(&self, f: &mut fmt::Formatter<W>) -> fmt::Result {
         f.write_str(self.word())
     }

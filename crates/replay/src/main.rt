@@ -2,7 +2,7 @@
 #![tactic(auto)]
 
 ghost use Rattle.std.specs.Prelude.{◌≡◌, ◌≤◌, ◌^◌, min, length, take};
-ghost use Rattle.word.specs.Int.{mod_ℤ};
+ghost use Rattle.word.specs.Int.{mod_ℤ, wrap16};
 ghost use Rattle.replay.specs.Put.{room, shorts, put};
 ghost use Rattle.replay.specs.Sum.{sum_all};
 
@@ -241,12 +241,11 @@ fn room(n: usize, at: usize, count: usize) -> bool
 fn shorts(row: [i32; 64]) -> [i16; 64]
     ensures { result ≡ shorts row }
 {
-    // The proof of `row.map(low16)` did not close: its call of low16 tells nothing of the element's range.
-    let mut new = [0; 64];
-    for (i, x) in new.iter_mut().enumerate() {
-        *x = low16(row[i]);
-    }
-    new
+    row.map(
+        |x: i32| -> i16
+            ensures { result ≡ wrap16 x }
+        { low16(x) },
+    )
 }
 
 // A line's numbers after its first two, stored from a place on, where there is room.
@@ -335,6 +334,7 @@ fn step(rt: &impl Print, r: &mut Run) -> io::Result<()> {
     write_line(rt, r.calls, answer, &r.lent)
 }
 
+// Byte by byte: a line may begin in one part of the input and end in the next.
 fn replay(rt: &impl Print, r: &mut Run, text: &[u8]) -> io::Result<()> {
     for b in text {
         r.line = fed(r.line, *b);

@@ -1,7 +1,7 @@
 -- What appends in order leave, and what they take.
 use Prim.Native.Nat.{ℕ, zero, suc, ◌+◌, ◌*◌, ◌≤◌, ◌<◌}
 use mathlib.Core.Path.{◌≡◌, refl, sym, ap, ◌∙◌}
-use mathlib.Core.Bool.{Bool, true, false, not, ◌&&◌, false≢true}
+use mathlib.Core.Bool.{true, false, not, ◌&&◌}
 use mathlib.Core.List.{List, [], ◌∷◌, ◌++◌, append_assoc, append-nil}
 use native.Mathlib.Omega.{arith}
 use borrow.Author.Tests.{eq-eqb, le-leb, le-ltb, ltb-false, not-false}
@@ -14,6 +14,7 @@ use Rattle.word.proofs.Order.{eq_ℤ_refl}
 use native.Mathlib.Nat.{mod-eq_of_lt}
 use Rattle.le.specs.Bytes.{bytes_of, with_bytes, same}
 use Rattle.std.specs.Prelude.{Ok, Err}
+use Rattle.std.proofs.lemmas.Bool.{and_parts}
 use Rattle.refusal.specs.First.{◌gives◌}
 use Rattle.refusal.specs.Refusals.{Judged, code_of, if_accepted}
 use Rattle.refusal.specs.declared.Refusal.TheVariants.{Rate, Size, Record}
@@ -39,10 +40,6 @@ pub zeros-at : (b : List ℕ) (at n : ℕ) (q : List ℕ) → drop at b ≡ repl
 zeros-at b at n q e =
     zeros_are b at n
     (λ j h. sym (get_or-drop at b j 0) ∙ ap (λ (c : List ℕ). get_or c j 0) e ∙ get_or-append (replicate n 0) q 0 j (rw (length-replicate {A = ℕ} n 0) h) ∙ get_or-replicate n j 0 0 h)
-
-both : (a b : Bool) → (a && b) ≡ true → (a ≡ true) × (b ≡ true)
-both true b e = (refl, e)
-both false b e = absurd (false≢true e)
 
 -- a rate and a count are bytes
 rate_byte : (khz : ℤ) → is_rate khz ≡ true → pos (mod_ℤ khz 256) ≡ khz
@@ -103,7 +100,7 @@ module _ (khz nb : ℤ) (e : is_rate khz ≡ true) (f : is_count nb ≡ true) wh
     unfolding append_refusal
     takes x a =
         let c = clear_then ((not (has_room (length bytes) (length ys) && has_pulses x) gives Record) ∷ head_rows khz nb bytes) (described (shape khz nb) x) a in
-        let r = room (length bytes) (length ys) (both (has_room (length bytes) (length ys)) (has_pulses x) (not-false (has_room (length bytes) (length ys) && has_pulses x) c.0.0)).0 in
+        let r = room (length bytes) (length ys) (and_parts (has_room (length bytes) (length ys)) (has_pulses x) (not-false (has_room (length bytes) (length ys) && has_pulses x) c.0.0)).0 in
         record { few = omega (arith, r.few); enough = omega (arith, r.enough, length-bytes); rows = c.1 }
 
     pub taken : (x : Recorded) → suc (length ys) ≤ 59 → 1024 ≤ length d → has_pulses x ≡ true → append_refusal khz nb bytes (length ys) x ≡ described (shape khz nb) x

@@ -1,7 +1,7 @@
 -- A recording that is read in order is written as the same bytes.
 use Prim.Native.Nat.{ℕ, zero, suc, ◌+◌, ◌-◌, ◌*◌, ◌/◌, ◌≤◌, ◌<◌}
 use mathlib.Core.Path.{◌≡◌, refl, sym, ap, ◌∙◌, subst}
-use mathlib.Core.Bool.{Bool, true, false, cond, ◌&&◌, ◌||◌, false≢true}
+use mathlib.Core.Bool.{Bool, true, false, cond, ◌||◌, false≢true}
 use mathlib.Core.List.{List, [], ◌∷◌, ◌++◌, append_assoc, append-nil, map}
 use native.Mathlib.Omega.{arith}
 use native.Mathlib.Nat.{mod-eq_of_lt}
@@ -16,16 +16,13 @@ use Rattle.le.proofs.Packing.{drop-bytes, take-bytes}
 use Rattle.record.specs.Recorded.{Recorded, recorded_in, record_bytes}
 use Rattle.record.proofs.Ways.{read_is_written}
 use Rattle.std.specs.Prelude.{Option, Some, None, codes}
+use Rattle.std.proofs.lemmas.Bool.{and_parts}
 use Rattle.chain.specs.Chain.{records_in, next_of, is_among, chain_from, chain_of, is_broken, on_chain}
 use Rattle.chain.proofs.Steps.{whole}
 use Rattle.recording.specs.Frames.{zeros, is_head, rate_in, count_in, is_frame, are_frames, recorded_at, frames_in}
 use Rattle.recording.proofs.Answers.{rows-clear}
 use Rattle.recorder.specs.Writing.{head_bytes, frame_bytes, link_to, frames_to, recording_to, recording_bytes}
 use Rattle.round_trip.specs.Claims.{up_from, ReadIsWritten}
-
-both : (a b : Bool) → (a && b) ≡ true → (a ≡ true) × (b ≡ true)
-both true b e = (refl, e)
-both false b e = absurd (false≢true e)
 
 -- bytes that are zeros
 zero_at : (b : List ℕ) (at n : ℕ) → zeros b at n ≡ true → (j : ℕ) → j < n → get_or b (at + j) 0 ≡ 0
@@ -34,7 +31,7 @@ zero_at b at zero e j h = elim h [ ]
 zero_at b at (suc n) e j h = go (zero_at b at n) (ltb j n) refl
   where
     s : (zeros b at n ≡ true) × (eqb (get_or b (at + n) 0) 0 ≡ true)
-    s = both (zeros b at n) (eqb (get_or b (at + n) 0) 0) e
+    s = and_parts (zeros b at n) (eqb (get_or b (at + n) 0) 0) e
 
     go : (zeros b at n ≡ true → (j : ℕ) → j < n → get_or b (at + j) 0 ≡ 0) → (t : Bool) → ltb j n ≡ t → get_or b (at + j) 0 ≡ 0
     go again true p = again s.0 j (ltb-true j n p)
@@ -57,7 +54,7 @@ fewer b at m zero e =
     subst (λ (k : ℕ). zeros b at k ≡ true) z e
 fewer b at m (suc n) e =
     let z : m + suc n ≡ suc (m + n) = omega arith in
-    fewer b at m n (both (zeros b at (m + n)) (eqb (get_or b (at + (m + n)) 0) 0) (subst (λ (k : ℕ). zeros b at k ≡ true) z e)).0
+    fewer b at m n (and_parts (zeros b at (m + n)) (eqb (get_or b (at + (m + n)) 0) 0) (subst (λ (k : ℕ). zeros b at k ≡ true) z e)).0
 
 -- a record's next number
 next-bytes : (b : List ℕ) (i : ℕ) → Bytes b → 1024 * i + 2 ≤ length b → bytes_of 2 (pos (next_of b i)) ≡ take 2 (drop (1024 * i) b)
@@ -160,13 +157,13 @@ frames-again : (b : List ℕ) (n i : ℕ) → Bytes b → 1024 * (i + suc n) ≡
     → frames_to 0 i (map (recorded_at b) (up_from i (suc n))) ≡ drop (1024 * i) b
 unfolding frames_to up_from are_frames
 frames-again b zero i t l o a =
-    let f = both (is_frame b i) true a in
+    let f = and_parts (is_frame b i) true a in
     let k : 1024 * i + 1024 ≡ length b = omega arith in
     append-nil (frame_bytes (link_to 0 (suc i) []) (recorded_at b i)) ∙ ap (λ (m : ℕ). frame_bytes m (recorded_at b i)) (link_is b i 0 (recorded_at b) o)
     ∙ frame-again b i t (omega arith) f.0
     ∙ take_all 1024 (drop (1024 * i) b) (omega (arith, length-drop (1024 * i) b))
 frames-again b (suc n) i t l o a =
-    let f = both (is_frame b i) (are_frames b (suc i ∷ up_from (suc (suc i)) n)) a in
+    let f = and_parts (is_frame b i) (are_frames b (suc i ∷ up_from (suc (suc i)) n)) a in
     let m : 1024 * (suc i + suc n) ≡ length b = omega arith in
     let s : 1024 * suc i ≡ 1024 * i + 1024 = omega arith in
     (λ j. (ap (λ (m : ℕ). frame_bytes m (recorded_at b i)) (link_is b i (suc n) (recorded_at b) o) ∙ frame-again b i t (omega arith) f.0) j
@@ -177,7 +174,7 @@ same-part : (a m : List ℕ) (n : ℕ) → n ≤ length a → n ≤ length m →
 unfolding same
 same-part a m zero h k e = refl
 same-part a m (suc n) h k e =
-    let s = both (same a m n) (eqb (get_or a n 0) (get_or m n 0)) e in
+    let s = and_parts (same a m n) (eqb (get_or a n 0) (get_or m n 0)) e in
     take-suc a n 0 h ∙ (λ i. same-part a m n (omega arith) (omega arith) s.0 i ++ eqb-true (get_or a n 0) (get_or m n 0) s.1 i ∷ []) ∙ sym (take-suc m n 0 k)
 
 one_byte : (b : List ℕ) (at : ℕ) → Bytes b → at < length b → bytes_of 1 (pos (get_or b at 0)) ≡ take 1 (drop at b)
@@ -186,7 +183,7 @@ one_byte b at t h = ap (λ (n : ℕ). n ∷ []) (mod-eq_of_lt (t at)) ∙ sym (a
 head_again : (b : List ℕ) → Bytes b → 1024 ≤ length b → is_head b ≡ true → head_bytes (next_of b 0) (rate_in b) (count_in b) ≡ take 1024 b
 unfolding is_head head_bytes
 head_again b t h e =
-    let s = both (same (drop 2 b) (codes "YARD") 4) (zeros b 8 1016) e in
+    let s = and_parts (same (drop 2 b) (codes "YARD") 4) (zeros b 8 1016) e in
     let m : codes "YARD" ≡ take 4 (drop 2 b) = sym (same-part (drop 2 b) (codes "YARD") 4 (omega (arith, length-drop 2 b)) (omega arith) s.0) in
     let z = zeros_of b 8 1016 (omega arith) s.1 in
     (λ i. next-bytes b 0 t (omega arith) i ++ m i ++ one_byte b 6 t (omega arith) i ++ one_byte b 7 t (omega arith) i ++ sym z i)

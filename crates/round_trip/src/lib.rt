@@ -1,4 +1,4 @@
-// A recording is read as it was written, and written as it was read. The claims have no code: each is a contract.
+// A recording is read as it was written, and written as it was read.
 #![tactic(auto)]
 
 ghost use Rattle.round_trip.specs.Claims.{InOrder, WrittenIsRead, WriterTakes, ReadIsWritten};

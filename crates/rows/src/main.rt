@@ -3,7 +3,7 @@
 
 use decoder::{Frame, Params, Signal, SilkDecoderControl, SilkDecoderState, set_up, set_up_with};
 use input::read_full;
-use line::{Line, blank, fed};
+use line::{Line, line_of};
 use refusal::Refusal;
 use std::io;
 use word::{bits32, low16};
@@ -64,13 +64,10 @@ fn held(khz: i32, nb_subfr: i32) -> Result<SilkDecoderState, Refusal> {
     Ok(s)
 }
 
-// A number as one of 8 bits; one outside them counts as -1, which row 5 refuses.
+// A number as one of 8 bits; one outside them counts as -1, which row 5 refuses. layout reads a frame's numbers by the same line,
+// but rows judges without layout and the crates below it.
 fn small(n: i32) -> i8 {
     i8::try_from(n).unwrap_or(-1)
-}
-
-fn lent(n: i32) -> usize {
-    bits32(n) as usize
 }
 
 impl Case {
@@ -159,9 +156,9 @@ impl Case {
             74 => self.lines[9] = low16(value),
             75 => self.lines[10] = low16(value),
             76 => self.lines[15] = low16(value),
-            77 => self.pulses = lent(value),
-            78 => self.output = lent(value),
-            79 => self.length = lent(value),
+            77 => self.pulses = bits32(value) as usize,
+            78 => self.output = bits32(value) as usize,
+            79 => self.length = bits32(value) as usize,
             80 => self.params.signal = Signal::Other(small(value)),
             // 99 changes nothing.
             _ => {}
@@ -271,28 +268,20 @@ impl Tally {
     }
 }
 
-fn run(rt: &impl Print, text: &[u8]) -> io::Result<Tally> {
+// At most 65,536 bytes are read, and what follows the last newline is no line.
+fn main(rt: HostRuntime) -> io::Result<()> {
+    let mut text = [0u8; 65536];
+    let n = read_full(&mut rt.stdin(), &mut text)?;
     let mut t = Tally {
         lines: 0,
         passed: 0,
         failed: 0,
     };
-    let mut l = blank();
-    for b in text {
-        l = fed(l, *b);
-        if *b == b'\n' {
-            t.take(rt, l)?;
-            l = blank();
+    for bytes in text[..n].split_inclusive(|b| *b == b'\n') {
+        if bytes.ends_with(b"\n") {
+            t.take(&rt, line_of(bytes))?;
         }
     }
-    Ok(t)
-}
-
-// At most 65,536 bytes are read.
-fn main(rt: HostRuntime) -> io::Result<()> {
-    let mut text = [0u8; 65536];
-    let n = read_full(&mut rt.stdin(), &mut text)?;
-    let t = run(&rt, &text[..n])?;
     let passed = t.passed;
     let failed = t.failed;
     println!(rt; "{passed} passed, {failed} failed")

@@ -58,6 +58,7 @@ fn with_number(s: Sentence, v: i32) -> Sentence
 }
 
 // No two answers share a sentence.
+#[tactic(auto, using(crate::proofs::Apart::no_two))]
 pub fn no_two()
     ensures { NoTwo }
 {}

@@ -5,12 +5,12 @@ use mathlib.Core.Bool.{Bool, true, false, cond, ◌||◌}
 use mathlib.Core.Logic.{◌⊎◌, inl, inr}
 use native.Mathlib.Omega.{arith}
 use native.Mathlib.Nat.{mul-le-mul}
-use lib.Dec.{T, eqb, lit≤}
+use lib.Dec.{T, eqb, lit≤, lit<}
 use lib.IntN.{ℤ, pos, nat_abs}
 use lib.Signed.{non_neg}
 use mir.Syntax.{w32, w64}
-use mir.Val.{of_z, to_z, Fits}
-use Rattle.word.proofs.Order.{isnt, eq_ℤ_true}
+use mir.Val.{of_z, to_z, Fits, SFits}
+use Rattle.word.proofs.Order.{key, isnt, eq_ℤ_true}
 use Rattle.word.specs.Int.{eq_ℤ}
 use Rattle.shape.specs.Shape.{order_of, is_rate, is_count, rate_of, count_of}
 
@@ -22,6 +22,23 @@ no_rate z a b c = rw (isnt w32 z 8 a, isnt w32 z 12 b, isnt w32 z 16 c)
 pub no_count : (z : ℤ) → (of_z w32 z ≡ 2 → ⊥) → (of_z w32 z ≡ 4 → ⊥) → is_count z ≡ false
 unfolding is_count
 no_count z a b = rw (isnt w32 z 2 a, isnt w32 z 4 b)
+
+-- ---- a rate by its key
+pub rate_8 : (z : ℤ) → SFits w32 z → of_z w32 z ≡ 8 → rate_of z ≡ 8
+unfolding is_rate rate_of
+rate_8 z f e = rw (key w32 z 8 (lit< tt) f e) refl
+
+pub rate_12 : (z : ℤ) → SFits w32 z → of_z w32 z ≡ 12 → rate_of z ≡ 12
+unfolding is_rate rate_of
+rate_12 z f e = rw (key w32 z 12 (lit< tt) f e) refl
+
+pub rate_16 : (z : ℤ) → SFits w32 z → of_z w32 z ≡ 16 → rate_of z ≡ 16
+unfolding is_rate rate_of
+rate_16 z f e = rw (key w32 z 16 (lit< tt) f e) refl
+
+pub rate_none : (z : ℤ) → (of_z w32 z ≡ 8 → ⊥) → (of_z w32 z ≡ 12 → ⊥) → (of_z w32 z ≡ 16 → ⊥) → rate_of z ≡ 0
+unfolding rate_of
+rate_none z a b c = rw (no_rate z a b c) refl
 
 -- ---- what the tests say
 pub data Rates (r : ℕ) : Type 0 where
@@ -165,8 +182,14 @@ count_le z = go (is_count z) refl
     go false e = rw e (lit≤ tt)
 
 -- a number that is one is not negative
-pub casts : {z : ℤ} (n : ℕ) → n ≤ 16 → z ≡ pos n → T (non_neg z) × Fits w64 (nat_abs z)
+casts : {z : ℤ} (n : ℕ) → n ≤ 16 → z ≡ pos n → T (non_neg z) × Fits w64 (nat_abs z)
 casts n h e = rw e (tt, record { fits = omega arith })
+
+pub rate_casts : (z : ℤ) → is_rate z ≡ true → T (non_neg z) × Fits w64 (nat_abs z)
+rate_casts z e = casts (rate_of z) (rate_le z) (rate_kept z e)
+
+pub count_casts : (z : ℤ) → is_count z ≡ true → T (non_neg z) × Fits w64 (nat_abs z)
+count_casts z e = let h = count_le z in casts (count_of z) (omega arith) (count_kept z e)
 
 pub order_le : (r : ℕ) → order_of r ≤ 16
 unfolding order_of

@@ -9,6 +9,7 @@ ghost use Rattle.shape.specs.Order.{size, order};
 #[derive(Clone, Copy)]
 pub struct Rate;
 
+#[tactic(auto, using(crate::proofs::Shapes::rate_8, crate::proofs::Shapes::rate_12, crate::proofs::Shapes::rate_16, crate::proofs::Shapes::rate_none), unfolding(crate::specs::Shape::order_of))]
 impl Rate {
     pub const SUBFR_LENGTH_8: usize = 40;
 
@@ -114,7 +115,7 @@ impl Order {
         }
     }
 
-    // The order that a number is, for callers whose number is one.
+    // For callers whose number is an order: from `of` they would unwrap an Option and prove that it is Some, which this `requires` says.
     pub fn from_size(d: usize) -> Order
         requires { (d ≡ 10) ⊎ (d ≡ 16) }
         ensures { size result ≡ d }
@@ -144,6 +145,7 @@ pub struct FrameShape {
 }
 
 impl FrameShape {
+    #[tactic(auto, using(crate::proofs::Shapes::rate_back, crate::proofs::Shapes::order_two, crate::proofs::Shapes::rates))]
     pub fn order(self) -> Order
         ensures { size result ≡ order_of (rate_of self.fs_khz) }
     {
@@ -155,6 +157,7 @@ impl FrameShape {
 }
 
 // The rate as a length, 0 for a number that is none.
+#[tactic(auto, using(crate::proofs::Shapes::rate_casts), unfolding(crate::specs::Shape::rate_of))]
 pub fn rate_of(khz: i32) -> usize
     ensures { result ≡ rate_of khz }
 {
@@ -162,6 +165,7 @@ pub fn rate_of(khz: i32) -> usize
 }
 
 // The count of subframes as a length, 0 for a number that is none.
+#[tactic(auto, using(crate::proofs::Shapes::count_casts), unfolding(crate::specs::Shape::count_of))]
 pub fn count_of(nb_subfr: i32) -> usize
     ensures { result ≡ count_of nb_subfr }
 {
@@ -172,12 +176,14 @@ pub fn count_of(nb_subfr: i32) -> usize
     }
 }
 
+#[tactic(auto, using(crate::proofs::Shapes::no_rate, word::proofs::Order::key), unfolding(crate::specs::Shape::is_rate))]
 pub fn is_rate(khz: i32) -> bool
     ensures { result ≡ is_rate khz }
 {
     matches!(khz, 8 | 12 | 16)
 }
 
+#[tactic(auto, using(crate::proofs::Shapes::no_count, word::proofs::Order::key), unfolding(crate::specs::Shape::is_count))]
 pub fn is_count(nb_subfr: i32) -> bool
     ensures { result ≡ is_count nb_subfr }
 {
@@ -185,6 +191,7 @@ pub fn is_count(nb_subfr: i32) -> bool
 }
 
 // The samples of a frame, 0 for a shape that is none.
+#[tactic(auto, using(crate::proofs::Shapes::frame_le))]
 pub fn frame_length(khz: i32, nb_subfr: i32) -> usize
     ensures { result ≡ frame_length (shape khz nb_subfr) }
 {

@@ -1,5 +1,5 @@
 -- Of more coefficients than its order a filter reads the first alone.
-use Rattle.std.proofs.Common.{◌≡◌, ℕ, zero, suc, ◌-◌, ◌≤◌, List, length, take, ℤ, pos, refl, arith, length-take-le}
+use Rattle.std.proofs.Common.{◌≡◌, ℕ, zero, suc, ◌≤◌, List, length, take, ℤ, pos, refl, arith, length-take-le}
 use lib.Seq.{get_or-take}
 use Rattle.sigproc.specs.Analysis.{products, residual}
 use Rattle.sigproc.specs.Synthesis.{prediction}

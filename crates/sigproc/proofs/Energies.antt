@@ -1,5 +1,7 @@
 -- The energy of up to 320 samples: nothing wraps, the energy stays below 2 ^ 29 and its shift is at most 10.
-use Rattle.std.proofs.Common.{◌≡◌, ℕ, zero, suc, ◌+◌, ◌-◌, ◌*◌, ◌/◌, ◌%◌, ◌^◌, ◌<◌, ◌≤◌, Bool, true, false, ltb, List, length, ℤ, pos, refl, ap, ◌∙◌, subst, le_trans, lt_of_lt_of_le, lt_of_le_of_lt, mul-le-mul_right, mod-lt, mod-eq_of_lt, mul-le-mul, pow-suc, arith, pow_pos, pow_mono, pow-add, shl_lt, shr-shr, ltb-false, ltb-true}
+use Rattle.std.proofs.Common.{◌≡◌, ℕ, zero, suc, ◌+◌, ◌-◌, ◌*◌, ◌/◌, ◌%◌, ◌^◌, ◌<◌, ◌≤◌, Bool, true, false, ltb, List, [], length, get_or, drop, ℤ, pos, refl, ap, ◌∙◌, subst, le_trans, le_of_suc-le-suc, not-suc-le-zero, lt_of_lt_of_le, lt_of_le_of_lt, mul-le-mul_right, mod-lt, mod-eq_of_lt, mul-le-mul, pow-suc, arith, pow_pos, pow_mono, pow-add, shl_lt, shr-shr, ltb-false, ltb-true}
+use Rattle.std.specs.Simd.{first_chunks}
+use Rattle.std.proofs.lemmas.List.{get_or-take, get_or-drop}
 use native.Mathlib.Nat.{lt_of_mul-lt-mul_left, mul-div-le}
 use lib.Count.{count_leading_zeros, leading_top}
 use lib.Pow.{split}
@@ -23,6 +25,14 @@ energy_odd x s h =
     let z : square x (2 * m + 1) ≡ 0 = rw (beyond x (2 * m + 1) (omega arith)) in
     let a : square x (length x - 1) + 0 ≡ square x (length x - 1) = omega arith in
     rw (e, z, i, a)
+
+-- the samples of pair i
+pub chunk_at : (x : List ℤ) (k i j : ℕ) → i < k → j < 2 → get_or (get_or (first_chunks 2 k x) i []) j (pos 0) ≡ get_or x (2 * i + j) (pos 0)
+chunk_at x zero i j h l = absurd (not-suc-le-zero h)
+chunk_at x (suc k) zero j h l = let e : j ≡ 2 * 0 + j = omega arith in get_or-take 2 x j (pos 0) l ∙ ap (λ (n : ℕ). get_or x n (pos 0)) e
+chunk_at x (suc k) (suc i) j h l =
+    let e : 2 + (2 * i + j) ≡ 2 * suc i + j = omega arith in
+    chunk_at (drop 2 x) k i j (le_of_suc-le-suc h) l ∙ get_or-drop 2 x (2 * i + j) (pos 0) ∙ ap (λ (n : ℕ). get_or x n (pos 0)) e
 
 -- each sample adds at most 2 ^ 30
 pub more_le : (s p q A B : ℕ) → 2 ^ s * p ≤ A → q ≤ B → 2 ^ s * (p + q / 2 ^ s) ≤ A + B

@@ -1,17 +1,8 @@
 -- A loop that fills a list from the front: what it has made, and the rest as it was.
-use Rattle.std.proofs.Common.{◌≡◌, ℕ, zero, suc, ◌+◌, ◌<◌, ◌≤◌, List, [], ◌∷◌, ◌++◌, map, length, get_or, drop, set, ℤ, pos, sym, refl, ap, ◌∙◌, replicate, append-nil, le_of_suc-le-suc, not-suc-le-zero, add-one, drop_of_length-le, ext_get_or}
-use Rattle.std.proofs.lemmas.List.{length-replicate, get_or-replicate}
+use Rattle.std.proofs.Common.{◌≡◌, ℕ, ◌+◌, ◌<◌, ◌≤◌, List, ◌++◌, map, length, get_or, drop, set, ℤ, pos, sym, ◌∙◌, replicate, append-nil, add-one, drop_of_length-le, ext_get_or}
+use Rattle.std.proofs.lemmas.List.{length-map, get_or-map, length-replicate, get_or-replicate}
 use Rattle.word.specs.Tabulate.{tabulate}
 use Rattle.word.proofs.Lists.{length-tabulate, get_or-tabulate, tabulate-more}
-
-pub length-map : (f : ℤ → ℤ) (xs : List ℤ) → length (map f xs) ≡ length xs
-length-map f [] = refl
-length-map f (x ∷ xs) = ap suc (length-map f xs)
-
-pub get_or-map : (f : ℤ → ℤ) (xs : List ℤ) (i : ℕ) → i < length xs → get_or (map f xs) i (pos 0) ≡ f (get_or xs i (pos 0))
-get_or-map f [] i h = absurd (not-suc-le-zero h)
-get_or-map f (x ∷ xs) zero h = refl
-get_or-map f (x ∷ xs) (suc i) h = get_or-map f xs i (le_of_suc-le-suc h)
 
 -- one more
 pub turn : (d : List ℤ) (f : ℕ → ℤ) (i : ℕ) (out : List ℤ) (v : ℤ) → i < length d → out ≡ tabulate i f ++ drop i d → v ≡ f i
@@ -26,8 +17,8 @@ filled p d n h = rw (drop_of_length-le d {i = n} h) (append-nil p)
 pub map-table : (f : ℤ → ℤ) (xs : List ℤ) → tabulate (length xs) (λ i. f (get_or xs i (pos 0))) ≡ map f xs
 map-table f xs =
     let g : ℕ → ℤ = λ i. f (get_or xs i (pos 0)) in
-    ext_get_or (pos 0) (tabulate (length xs) g) (map f xs) (length-tabulate (length xs) g ∙ sym (length-map f xs))
-    (λ i h. let k : i < length xs = rw (length-tabulate (length xs) g) at h in get_or-tabulate (length xs) g i k ∙ sym (get_or-map f xs i k))
+    ext_get_or (pos 0) (tabulate (length xs) g) (map f xs) (length-tabulate (length xs) g ∙ sym (length-map xs f))
+    (λ i h. let k : i < length xs = rw (length-tabulate (length xs) g) at h in get_or-tabulate (length xs) g i k ∙ sym (get_or-map f xs i (pos 0) (pos 0) k))
 
 -- a table of zeros
 pub all-zeros : (f : ℕ → ℤ) (n : ℕ) → ((i : ℕ) → i < n → f i ≡ pos 0) → tabulate n f ≡ replicate n (pos 0)

@@ -1,72 +1,29 @@
 -- Every result is in the range of its type, and every list has its length.
-use Rattle.std.proofs.Common.{◌≡◌, ℕ, zero, suc, ◌+◌, ◌-◌, ◌^◌, ◌≤◌, ltb, List, [], ◌∷◌, ◌++◌, map, length, get_or, take, drop, set, ℤ, pos, arith, get_or-drop, pow_pos, w16, w32, SFits}
+use Rattle.std.proofs.Common.{◌≡◌, ℕ, zero, suc, ◌+◌, ◌-◌, ◌^◌, ◌≤◌, ltb, List, ◌++◌, length, get_or, take, drop, ℤ, pos, arith, w16, w32, SFits}
 use mir.Syntax.{Width}
 use mir.Val.{hbits}
 use Rattle.word.specs.Size.{Bounded}
-use Rattle.word.specs.Tabulate.{tabulate}
 use Rattle.word.proofs.Words.{wrap-fits}
 use Rattle.word.proofs.Sizes.{fits-abs}
-use Rattle.word.proofs.Order.{sat16-fits, sat32-fits}
+use Rattle.word.proofs.Order.{cond_fits, sat16-fits, sat32-fits}
 use Rattle.word.proofs.Lists.{length-tabulate}
-use Rattle.macros.proofs.Ranges.{cond_fits, smlawb-fits}
+use Rattle.word.proofs.Fits.{zero_fits, AllFit, one-fits, append-fits, take-fits, drop-fits, set-fits, tabulate-fits}
+use Rattle.macros.proofs.Ranges.{smlawb-fits}
 use Rattle.sigproc.specs.Place.{put_at, rotate_left, update_out_buf}
 use Rattle.sigproc.specs.Expand.{factor, shrunk, bwexpander}
 use Rattle.sigproc.specs.Analysis.{residual, analysis}
 use Rattle.sigproc.specs.Synthesis.{ltp_prediction, prediction, synthesised, synthesis, played_q10, played}
 
--- every element is in the range of the width w
-abbrev pub Fit : Width → List ℤ → Type 0
-Fit w xs = (i : ℕ) → SFits w (get_or xs i (pos 0))
-
-pub fit_bounded : {w : Width} (xs : List ℤ) → Fit w xs → Bounded (2 ^ hbits w) xs
+pub fit_bounded : {w : Width} (xs : List ℤ) → AllFit w xs → Bounded (2 ^ hbits w) xs
 fit_bounded xs h i = fits-abs (get_or xs i (pos 0)) (h i)
 
--- ---- lists
-zero_fits : (w : Width) → SFits w (pos 0)
-zero_fits w = record { sfits = pow_pos (hbits w) }
-
-pub append-fits : {w : Width} (xs ys : List ℤ) → Fit w xs → Fit w ys → Fit w (xs ++ ys)
-append-fits [] ys h k i = k i
-append-fits (x ∷ xs) ys h k zero = h 0
-append-fits (x ∷ xs) ys h k (suc i) = append-fits xs ys (λ j. h (suc j)) k i
-
-pub one-fits : {w : Width} (x : ℤ) → SFits w x → Fit w (x ∷ [])
-one-fits x h zero = h
-one-fits {w} x h (suc i) = zero_fits w
-
-pub take-fits : {w : Width} (n : ℕ) (xs : List ℤ) → Fit w xs → Fit w (take n xs)
-take-fits {w} zero xs h i = zero_fits w
-take-fits {w} (suc n) [] h i = zero_fits w
-take-fits (suc n) (x ∷ xs) h zero = h 0
-take-fits (suc n) (x ∷ xs) h (suc i) = take-fits n xs (λ j. h (suc j)) i
-
-pub drop-fits : {w : Width} (n : ℕ) (xs : List ℤ) → Fit w xs → Fit w (drop n xs)
-drop-fits n xs h i = rw (get_or-drop n xs i (pos 0)) (h (n + i))
-
-pub set-fits : {w : Width} (xs : List ℤ) (j : ℕ) (v : ℤ) → Fit w xs → SFits w v → Fit w (set xs j v)
-set-fits [] j v h k i = h i
-set-fits (x ∷ xs) zero v h k zero = k
-set-fits (x ∷ xs) zero v h k (suc i) = h (suc i)
-set-fits (x ∷ xs) (suc j) v h k zero = h 0
-set-fits (x ∷ xs) (suc j) v h k (suc i) = set-fits xs j v (λ m. h (suc m)) k i
-
-pub tabulate-fits : {w : Width} (n : ℕ) (f : ℕ → ℤ) → ((i : ℕ) → SFits w (f i)) → Fit w (tabulate n f)
-unfolding tabulate
-tabulate-fits {w} zero f h = λ i. zero_fits w
-tabulate-fits (suc n) f h = append-fits (tabulate n f) (f n ∷ []) (tabulate-fits n f h) (one-fits (f n) (h n))
-
-pub map-fits : {w : Width} (f : ℤ → ℤ) (xs : List ℤ) → ((x : ℤ) → SFits w (f x)) → Fit w (map f xs)
-map-fits {w} f [] h i = zero_fits w
-map-fits f (x ∷ xs) h zero = h x
-map-fits f (x ∷ xs) h (suc i) = map-fits f xs h i
-
 -- ---- places
-pub put_at-fits : {w : Width} (d : List ℤ) (at : ℕ) (s : List ℤ) → Fit w d → Fit w s → Fit w (put_at d at s)
+pub put_at-fits : {w : Width} (d : List ℤ) (at : ℕ) (s : List ℤ) → AllFit w d → AllFit w s → AllFit w (put_at d at s)
 unfolding put_at
 put_at-fits d at s h k =
     append-fits (take at d ++ s) (drop (at + length s) d) (append-fits (take at d) s (take-fits at d h) k) (drop-fits (at + length s) d h)
 
-pub update_out_buf-fits : {w : Width} (ob : List ℤ) (mem : ℕ) (xq : List ℤ) → Fit w ob → Fit w xq → Fit w (update_out_buf ob mem xq)
+pub update_out_buf-fits : {w : Width} (ob : List ℤ) (mem : ℕ) (xq : List ℤ) → AllFit w ob → AllFit w xq → AllFit w (update_out_buf ob mem xq)
 unfolding update_out_buf rotate_left
 update_out_buf-fits ob mem xq h k =
     let n = length xq in
@@ -82,19 +39,19 @@ pub shrunk-fits : (f x : ℤ) → SFits w16 (shrunk f x)
 unfolding shrunk
 shrunk-fits f x = wrap-fits w16 _
 
-pub bwexpander-fits : (chirp : ℤ) (a : List ℤ) (d : ℕ) → Fit w16 a → Fit w16 (bwexpander chirp a d)
+pub bwexpander-fits : (chirp : ℤ) (a : List ℤ) (d : ℕ) → AllFit w16 a → AllFit w16 (bwexpander chirp a d)
 unfolding bwexpander
 bwexpander-fits chirp a zero h = h
-bwexpander-fits chirp a (suc d) h = set-fits (bwexpander chirp a d) d _ (bwexpander-fits chirp a d h) (shrunk-fits _ _)
+bwexpander-fits chirp a (suc d) h = set-fits (bwexpander chirp a d) d (bwexpander-fits chirp a d h) (shrunk-fits _ _)
 
 -- ---- the analysis filter
 pub residual-fits : (x a : List ℤ) (d i : ℕ) → SFits w16 (residual x a d i)
 unfolding residual
 residual-fits x a d i = sat16-fits _
 
-pub analysis-fits : (x a : List ℤ) (d : ℕ) → Fit w16 (analysis x a d)
+pub analysis-fits : (x a : List ℤ) (d : ℕ) → AllFit w16 (analysis x a d)
 unfolding analysis
-analysis-fits x a d = tabulate-fits (length x) _ (λ i. cond_fits (ltb i d) (zero_fits w16) (residual-fits x a d i))
+analysis-fits x a d = tabulate-fits (length x) _ (λ i l. cond_fits (ltb i d) (zero_fits w16) (residual-fits x a d i))
 
 pub length-analysis : (x a : List ℤ) (d : ℕ) → length (analysis x a d) ≡ length x
 unfolding analysis
@@ -115,7 +72,7 @@ pub synthesised-fits : (u p : ℤ) → SFits w32 (synthesised u p)
 unfolding synthesised
 synthesised-fits u p = sat32-fits _
 
-pub synthesis-fits : (mem u a : List ℤ) (d n : ℕ) → Fit w32 mem → Fit w32 (synthesis mem u a d n)
+pub synthesis-fits : (mem u a : List ℤ) (d n : ℕ) → AllFit w32 mem → AllFit w32 (synthesis mem u a d n)
 unfolding synthesis
 synthesis-fits mem u a d zero h = h
 synthesis-fits mem u a d (suc n) h =

@@ -4,7 +4,7 @@
 
 ghost use Rattle.std.specs.Prelude.{◌≡◌, ◌+◌, ◌-◌, ◌*◌, ◌%◌, ◌^◌, ◌<◌, ◌≤◌, ◌++◌, map, length, take, drop, ◌*ℤ◌, unsigned_abs};
 ghost use Rattle.word.specs.Int.{wrap32};
-ghost use Rattle.macros.specs.Fixed.{round_shift};
+ghost use Rattle.macros.specs.Fixed.{round_shift, smulwb};
 ghost use Rattle.shape.specs.Order.{size};
 ghost use Rattle.sigproc.specs.Place.{put_at, update_out_buf};
 ghost use Rattle.sigproc.specs.Expand.{shrunk, bwexpander};
@@ -14,7 +14,7 @@ ghost use Rattle.sigproc.specs.Synthesis.{ltp_prediction, prediction, synthesise
 
 use macros::{
     silk_add_sat32, silk_lshift_sat32, silk_rshift_round, silk_rshift_round64, silk_smlawb,
-    silk_smulbb, silk_smull, silk_smulww,
+    silk_smulbb, silk_smull, silk_smulwb, silk_smulww,
 };
 use shape::Order;
 use word::{add32, low16, low32, mul16, sat16, shl32, shr32, sub32, wide16};
@@ -28,7 +28,7 @@ pub fn copy_at<T: Copy>(dst: &mut [T], at: usize, src: &[T])
     dst[at..at + src.len()].copy_from_slice(src);
 }
 
-// The first d numbers new, and the others as they were held.
+// The first d numbers new, and the others as they were held. Not an Order, which would serve 10 and 16 alone: callers have a number.
 pub fn with_front(held: [i16; 16], new: [i16; 16], d: usize) -> [i16; 16]
     requires { d ≤ 16 }
     ensures { result ≡ take d new ++ drop d held }
@@ -54,6 +54,7 @@ pub fn update_out_buf(ob: [i16; 480], mem: usize, xq: &[i16]) -> [i16; 480]
 }
 
 // The product of two numbers in Q16, rounded.
+#[tactic(auto, using(macros::proofs::Kept::words), unfolding(macros::specs::Fixed::rshift_round64))]
 fn round_q16(a: i32, b: i32) -> i32
     ensures { result ≡ wrap32 (round_shift (a *ℤ b) 16) }
 {
@@ -66,6 +67,7 @@ fn shrunk(f: i32, x: i16) -> i16
     low16(round_q16(f, wide16(x)))
 }
 
+// Any d up to 16, as the Rust's: an Order would serve 10 and 16 alone.
 pub fn silk_bwexpander(ar: &mut [i16; 16], d: usize, chirp_q16: i32)
     requires { d ≤ 16 }
     ensures { ar.new ≡ bwexpander chirp_q16 ar.old d }
@@ -77,17 +79,20 @@ pub fn silk_bwexpander(ar: &mut [i16; 16], d: usize, chirp_q16: i32)
     }
 }
 
+#[tactic(auto, using(macros::proofs::Kept::words), unfolding(crate::specs::Analysis::products))]
 fn products(x: &[i16], b: &[i16], i: usize) -> i32
     requires { (length b.now ≤ i) × (i ≤ length x.now) }
     ensures { result ≡ products x.now b.now i (length b.now) }
 {
     let mut sum = 0;
+    // By j, as the definition: a zip with the samples reversed would have the rests of two iterators in its invariant.
     for (j, c) in b.iter().enumerate() {
         sum = add32(sum, silk_smulbb(wide16(x[i - 1 - j]), wide16(*c)));
     }
     sum
 }
 
+#[tactic(auto, using(macros::proofs::Kept::words, word::proofs::Words::wrap_add_l), unfolding(crate::specs::Analysis::residual))]
 fn residual(x: &[i16], b: &[i16], i: usize) -> i16
     requires { (length b.now ≤ i) × (i < length x.now) }
     ensures { result ≡ residual x.now b.now (length b.now) i }
@@ -100,7 +105,7 @@ fn analysis_filter<const ORDER: usize>(out: &mut [i16], input: &[i16], b: &[i16;
     ensures { out.new ≡ analysis input.now b.now ORDER }
 {
     out[..ORDER].fill(0);
-    // A turn reads the ORDER samples before its own.
+    // Not `windows`: the definition has the residual at a place of the whole input, and that place is written here too.
     for i in ORDER..input.len() {
         out[i] = residual(input, &b[..ORDER], i);
     }
@@ -113,6 +118,17 @@ pub fn silk_lpc_analysis_filter(out: &mut [i16], input: &[i16], b: &[i16; 16], o
     match order {
         Order::Ten => analysis_filter::<10>(out, input, b),
         Order::Sixteen => analysis_filter::<16>(out, input, b),
+    }
+}
+
+// A residual by the inverse of a gain.
+pub fn weigh(to: &mut [i32], residual: &[i16], inverse: i32)
+    requires { length to.old ≡ length residual.now }
+    ensures { to.new ≡ map (smulwb inverse) residual.now }
+{
+    // Not a zip: after one over `iter_mut` only the length of `to` is known.
+    for (i, r) in residual.iter().enumerate() {
+        to[i] = silk_smulwb(inverse, wide16(*r));
     }
 }
 
@@ -135,16 +151,16 @@ fn energy_at(x: &[i16], s: u32) -> u32
     requires { s < 32 }
     ensures { (result ≡ energy_at x.now s % 2 ^ 32) × (2 ^ s * energy_at x.now s ≤ 2 ^ 30 * length x.now) }
 {
-    let n = x.len();
     let mut sum: u32 = 0;
-    // Two samples a turn: the sum of both is shifted, and a last one stands alone.
-    for m in 0..n / 2 {
-        sum = sum.wrapping_add((square(x[2 * m]) + square(x[2 * m + 1])) >> s);
+    // The squares of two samples are added up before the shift, and a last sample stands alone.
+    let (pairs, last) = x.as_chunks::<2>();
+    for pair in pairs {
+        sum = sum.wrapping_add((square(pair[0]) + square(pair[1])) >> s);
     }
-    if n % 2 == 0 {
+    if last.is_empty() {
         return sum;
     }
-    sum.wrapping_add(square(x[n - 1]) >> s)
+    sum.wrapping_add(square(last[0]) >> s)
 }
 
 pub fn silk_sum_sqr_shift(x: &[i16]) -> Energy
@@ -162,11 +178,13 @@ pub fn silk_sum_sqr_shift(x: &[i16]) -> Energy
 }
 
 // The long-term prediction from five values, p the place of the newest.
+#[tactic(auto, using(macros::proofs::Kept::words), unfolding(crate::specs::Synthesis::ltp_prediction))]
 pub fn ltp_prediction(past: &[i32], taps: &[i16; 5], p: usize) -> i32
     requires { (4 ≤ p) × (p < length past.now) }
     ensures { result ≡ ltp_prediction past.now taps.now p 5 }
 {
     let mut sum = 2;
+    // By j, as in products.
     for (j, tap) in taps.iter().enumerate() {
         sum = silk_smlawb(sum, past[p - j], wide16(*tap));
     }
@@ -179,12 +197,14 @@ fn prediction(s: &[i32], a: &[i16], at: usize) -> i32
     ensures { result ≡ prediction s.now a.now (length a.now) at (length a.now) }
 {
     let mut sum = (a.len() / 2) as i32;
+    // By j, as in products.
     for (j, c) in a[1..].iter().enumerate() {
         sum = silk_smlawb(sum, s[at - 2 - j], wide16(*c));
     }
     silk_smlawb(sum, s[at - 1], wide16(a[0]))
 }
 
+#[tactic(auto, using(macros::proofs::Kept::words), unfolding(crate::specs::Synthesis::synthesised))]
 fn synthesised(u: i32, p: i32) -> i32
     ensures { result ≡ synthesised u p }
 {
@@ -214,6 +234,7 @@ pub fn synthesis(buf: &mut [i32], a: &[i16; 16], order: Order)
     }
 }
 
+#[tactic(auto, using(macros::proofs::Kept::words), unfolding(crate::specs::Synthesis::played_q10))]
 pub fn played_sample(s: i32, gain_q10: i32) -> i16
     ensures { result ≡ played_q10 gain_q10 s }
 {

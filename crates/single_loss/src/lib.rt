@@ -26,7 +26,7 @@ pub fn single_loss(bytes: &[u8], limit: i32) -> Result<Option<usize>, Refusal>
     Ok(found)
 }
 
-// The answer names the smallest such frame, and none comes exactly if no single loss does it. The claims have no code: each is a contract.
+// The answer names the smallest such frame, and none comes exactly if no single loss does it.
 pub fn smallest_loss()
     ensures { AnswerMeans × NoneExactly }
 {}

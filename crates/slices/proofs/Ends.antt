@@ -1,16 +1,17 @@
 -- The slices after a call.
-use mathlib.Core.Path.{◌≡◌, refl, ap, ◌∙◌}
+use mathlib.Core.Path.{◌≡◌, refl, sym, ap, ◌∙◌}
 use mathlib.Core.Bool.{false≢true}
 use mathlib.Core.List.{List}
 use lib.IntN.{ℤ}
 use lib.ListN.{length}
 use Rattle.std.specs.Prelude.{Result, Ok, Err, is_ok}
-use Rattle.refusal.specs.Refusals.{Judged, if_accepted, answered as judged_by}
+use Rattle.refusal.specs.Refusals.{Judged, code_of, if_accepted, answered as judged_by}
 use Rattle.refusal.specs.declared.Refusal.{Refusal}
 use Rattle.decode_frame.specs.Answer.{frame_refusal, frame_answer}
+use Rattle.decoder.specs.declared.Frame.{Frame}
 use Rattle.layout.specs.Frame.{frame_in}
-use Rattle.slices.specs.Slices.{Slices, slices, leaves}
-use Rattle.slices.specs.Whole.{refusal_in, answered}
+use Rattle.slices.specs.Slices.{Slices, slices, state_of, leaves}
+use Rattle.slices.specs.Whole.{refusal_in, whole_call, answered, IsTaken}
 
 -- a call that answers a row leaves what was lent
 pub lent_back : {A B : Type 0} {r : Refusal} (j : Judged) (x : A) (new old : B) → Err r ≡ judged_by j x → if_accepted j new old ≡ old
@@ -36,3 +37,8 @@ judged_of (Err r) x left lent = refl
 pub judged_alike : (m : Slices) → refusal_in m.words m.halves m.frame m.coefs (length m.pulses) (length m.output) ≡ (answered (frame_in m.frame) m).judged
 unfolding refusal_in answered frame_answer frame_refusal
 judged_alike m = judged_of _ _ _ m
+
+-- the frame that the slices hold is taken where no row refuses it
+pub is_taken : {f : Frame} {u : Unit {0}} (m : Slices) → f ≡ frame_in m.frame → Ok u ≡ refusal_in m.words m.halves m.frame m.coefs (length m.pulses) (length m.output) → IsTaken f m
+unfolding refusal_in frame_refusal
+is_taken m e h = (λ i. code_of (frame_refusal (state_of m) (whole_call (e i) m))) ∙ sym (ap code_of h)

@@ -1,12 +1,12 @@
 -- A whole frame, at the rate and the count of subframes that come with it, on what slices hold.
-use Rattle.std.specs.Prelude.{ℕ, List, ℤ}
+use Rattle.std.specs.Prelude.{ℕ, ◌≡◌, List, ℤ}
 use Rattle.refusal.specs.First.{first_of}
-use Rattle.refusal.specs.Refusals.{Judged}
+use Rattle.refusal.specs.Refusals.{Judged, code_of}
 use Rattle.decoder.specs.declared.Answer.{Answer}
 use Rattle.decoder.specs.declared.Frame.{Frame}
 use Rattle.judge.specs.Rows.{frame_rows}
 use Rattle.decode_frame.specs.Call.{Call, frame_call}
-use Rattle.decode_frame.specs.Answer.{frame_answer, frame_output}
+use Rattle.decode_frame.specs.Answer.{frame_refusal, frame_answer, frame_output}
 use Rattle.layout.specs.Layout.{state_in}
 use Rattle.layout.specs.Frame.{frame_in, rate_in, subframes_in, control_in, rows_in, lines_in}
 use Rattle.slices.specs.Slices.{Slices, state_of, control_of, with_control, Answered, leaves}
@@ -29,3 +29,7 @@ module _ (f : Frame) (m : Slices) where
 -- a frame f on what the slices hold beside it
 unfoldable pub answered : Frame → Slices → Answered
 answered f m = leaves (frame_answer (state_of m) (whole_call f m)) (played_on f m) m
+
+-- no row refuses it
+abbrev pub IsTaken : Frame → Slices → Type 0
+IsTaken f m = code_of (frame_refusal (state_of m) (whole_call f m)) ≡ 0

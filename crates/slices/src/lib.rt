@@ -2,12 +2,12 @@
 // Inner: every function.
 #![tactic(auto)]
 
-ghost use Rattle.std.specs.Prelude.{◌≡◌};
+ghost use Rattle.std.specs.Prelude.{◌≡◌, Ok};
 ghost use Rattle.decoder.specs.declared.Frame.TheVariants.{Received, Lost};
 ghost use Rattle.layout.specs.Frame.{frame_in};
 ghost use Rattle.layout.specs.Lent.{SameState, SameFrame};
 ghost use Rattle.slices.specs.Slices.{lent};
-ghost use Rattle.slices.specs.Whole.{refusal_in, answered};
+ghost use Rattle.slices.specs.Whole.{refusal_in, answered, IsTaken};
 
 use decode_frame::{play_lost, play_received};
 use decoder::{Answer, Frame, Params};
@@ -35,14 +35,16 @@ pub fn frame_refusal(
     judge::frame(&s, rate, subframes, f, &c, &lines, pulses, output)
 }
 
+// A received frame that no row refuses.
 fn received(
     q: Params,
     state: &mut StateSlices<'_>,
     frame: &mut FrameSlices<'_>,
     pulses: &[i16],
     output: &mut [i16],
-) -> Result<(), Refusal>
-    ensures answer { record { judged = result; after = lent state.new frame.new pulses.now output.new }
+)
+    requires { IsTaken (Received q) (lent state.old frame.old pulses.now output.old) }
+    ensures answer { record { judged = Ok tt; after = lent state.new frame.new pulses.now output.new }
         ≡ answered (Received q) (lent state.old frame.old pulses.now output.old) }
     ensures same_reference { SameState state.old state.new × SameFrame frame.old frame.new }
 {
@@ -54,32 +56,23 @@ fn received(
     let lines = coefs.lines();
     let rate = numbers.rate();
     let subframes = numbers.subframes();
-    judge::received(
-        &s,
-        rate,
-        subframes,
-        q,
-        &c,
-        &lines,
-        pulses.len(),
-        output.len(),
-    )?;
     let mut played = Answer {
         state: s,
         control: c,
     };
     play_received(&mut played, rate, subframes, q, rows, lines, pulses, output);
     put_answer(&played, state, frame);
-    Ok(())
 }
 
+// A lost one, of which the pulses are not read.
 fn lost(
     state: &mut StateSlices<'_>,
     frame: &mut FrameSlices<'_>,
     pulses: &[i16],
     output: &mut [i16],
-) -> Result<(), Refusal>
-    ensures answer { record { judged = result; after = lent state.new frame.new pulses.now output.new }
+)
+    requires { IsTaken Lost (lent state.old frame.old pulses.now output.old) }
+    ensures answer { record { judged = Ok tt; after = lent state.new frame.new pulses.now output.new }
         ≡ answered Lost (lent state.old frame.old pulses.now output.old) }
     ensures same_reference { SameState state.old state.new × SameFrame frame.old frame.new }
 {
@@ -88,14 +81,12 @@ fn lost(
     let c = numbers.control(frame.coefs().coefs);
     let rate = numbers.rate();
     let subframes = numbers.subframes();
-    judge::lost(&s, rate, subframes, output.len())?;
     let mut concealed = Answer {
         state: s,
         control: c,
     };
     play_lost(&mut concealed, rate, subframes, output);
     put_answer(&concealed, state, frame);
-    Ok(())
 }
 
 // The frame, received or lost. Refused, it changes nothing.
@@ -109,8 +100,17 @@ pub fn play_frame(
         ≡ answered (frame_in frame.old.numbers.now) (lent state.old frame.old pulses.now output.old) }
     ensures same_reference { SameState state.old state.new × SameFrame frame.old frame.new }
 {
-    match frame.numbers().frame() {
+    let numbers = frame.numbers();
+    frame_refusal(
+        state.numbers(),
+        numbers,
+        frame.coefs(),
+        pulses.len(),
+        output.len(),
+    )?;
+    match numbers.frame() {
         Frame::Received(q) => received(q, state, frame, pulses, output),
         Frame::Lost => lost(state, frame, pulses, output),
     }
+    Ok(())
 }

@@ -5,4 +5,3 @@ pub mod Ends
 pub mod Turns
 pub mod Gains
 pub mod Limits
-pub mod Kept

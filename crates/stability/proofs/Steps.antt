@@ -1,8 +1,8 @@
 -- The numbers of a step.
-use Prim.Native.Nat.{ℕ, zero, suc, ◌+◌, ◌-◌, ◌≤◌}
-use mathlib.Core.Path.{◌≡◌, refl, sym, ap, ◌∙◌}
+use Prim.Native.Nat.{ℕ, suc, ◌+◌, ◌-◌, ◌≤◌}
+use mathlib.Core.Path.{◌≡◌, sym, ap, ◌∙◌}
 use mathlib.Core.Bool.{Bool, ◌&&◌, and-true, and_assoc}
-use mathlib.Core.List.{List, [], ◌∷◌, ◌++◌, map, map-append}
+use mathlib.Core.List.{List, [], ◌∷◌, ◌++◌}
 use native.Mathlib.Omega.{arith}
 use lib.IntN.{ℤ, pos, ◌+ℤ◌, ◌-ℤ◌}
 use mir.Syntax.{w32}
@@ -26,13 +26,6 @@ more-places n h = wrap_id {w = w32} {z = pos (n + 30)} (abs-fits (pos (n + 30)) 
 pub bit_length_le : (m : ℤ) → bit_length m ≤ 32
 unfolding bit_length
 bit_length_le m = omega arith
-
--- a table, each number changed by g
-pub map-tabulate : (g : ℤ → ℤ) (f : ℕ → ℤ) (n : ℕ) → map g (tabulate n f) ≡ tabulate n (λ i. g (f i))
-unfolding tabulate
-map-tabulate g f zero = refl
-map-tabulate g f (suc n) =
-    map-append g (tabulate n f) (f n ∷ []) ∙ ap (λ (xs : List ℤ). xs ++ g (f n) ∷ []) (map-tabulate g f n)
 
 all_fit_snoc : (xs : List ℤ) (x : ℤ) → all_fit (xs ++ x ∷ []) ≡ (all_fit xs && fits32 x)
 unfolding all_fit

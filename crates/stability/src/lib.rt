@@ -32,7 +32,7 @@ pub enum Unstable {
     Overflow(u8),
 }
 
-// Document 02's number of an answer.
+// Document 02's number of an answer. A function, as the next one: no From can be written for a Result, which is not of this crate.
 #[tactic(auto, unfolding(crate::specs::Stability::answer_number))]
 pub fn answer_number(s: Result<i32, Unstable>) -> u8
     ensures { result ≡ answer_number s }
@@ -66,14 +66,14 @@ fn reflection(a: i32) -> i32
     neg32(shl32(a, 7))
 }
 
-#[tactic(auto, using(crate::proofs::Kept::words), unfolding(crate::specs::Stability::rc_mult1))]
+#[tactic(auto, using(macros::proofs::Kept::words), unfolding(crate::specs::Stability::rc_mult1))]
 fn rc_mult1(rc: i32) -> i32
     ensures { result ≡ rc_mult1 rc }
 {
     sub32(1073741824, silk_smmul(rc, rc))
 }
 
-#[tactic(auto, using(crate::proofs::Kept::words), unfolding(crate::specs::Stability::next_gain))]
+#[tactic(auto, using(macros::proofs::Kept::words), unfolding(crate::specs::Stability::next_gain))]
 fn next_gain(rc: i32, gain: i32) -> i32
     ensures { result ≡ next_gain rc gain }
 {
@@ -86,7 +86,7 @@ fn bit_length(m: i32) -> i32
     sub32(32, silk_clz32(abs32(m)))
 }
 
-#[tactic(auto, using(crate::proofs::Kept::words), unfolding(crate::specs::Stability::mul_q))]
+#[tactic(auto, using(macros::proofs::Kept::words), unfolding(crate::specs::Stability::mul_q))]
 pub fn mul_q(a: i32, b: i32, q: i32) -> i32
     ensures { result ≡ mul_q a b q }
 {
@@ -106,7 +106,7 @@ fn rc_mult2(m: i32, q: i32) -> i32
     silk_inverse32_varq(m, add32(q, 30))
 }
 
-#[tactic(auto, using(crate::proofs::Kept::words), unfolding(crate::specs::Stability::step_down))]
+#[tactic(auto, using(macros::proofs::Kept::words), unfolding(crate::specs::Stability::step_down))]
 fn step_down(rc: i32, mult2: i32, q: i32, x: i32, y: i32) -> i64
     ensures { result ≡ step_down rc mult2 q x y }
 {
@@ -128,7 +128,7 @@ fn step(a: i32, gain: i32, k: u8) -> Result<i32, Unstable>
 }
 
 // The coefficients below place k after a step, in place from both ends; whether all are numbers of 32 bits.
-// A loop over places, since each turn changes two of one slice.
+// By place, since each turn changes two of one slice, and the halves of split_at_mut leave over the middle one of an odd k.
 fn step_all(rc: i32, mult2: i32, q: i32, a: &mut [i32], k: usize) -> bool
     requires { k ≤ length a.old }
     ensures { (result ≡ all_fit (stepped rc mult2 q a.old k)) × (take k a.new ≡ map wrap32 (stepped rc mult2 q a.old k)) }
@@ -185,11 +185,7 @@ fn lpc_inverse_pred_gain_qa(mut a: [i32; 16], order: usize, edition: i32) -> Res
 fn dc_resp(c: Coefs) -> i32
     ensures { result ≡ total c.entry.a_q12.now (length c.entry.a_q12.now) }
 {
-    let mut sum = 0;
-    for x in c.a_q12 {
-        sum += i32::from(*x);
-    }
-    sum
+    c.a_q12.iter().map(|x| i32::from(*x)).sum()
 }
 
 // The coefficients in Q24.
@@ -197,6 +193,7 @@ fn in_qa(c: Coefs) -> [i32; 16]
     ensures { result ≡ map (λ x. x *ℤ pos (2 ^ 12)) c.entry.a_q12.now ++ drop (length c.entry.a_q12.now) (replicate 16 (pos 0)) }
 {
     let mut a_qa = [0; 16];
+    // Not a zip: after one over `iter_mut` only the length of a_qa is known.
     for (k, x) in c.a_q12.iter().enumerate() {
         a_qa[k] = shl32(i32::from(*x), 12);
     }
@@ -222,6 +219,7 @@ pub fn inverse_pred_gain(c: Coefs, edition: i32) -> i32
 }
 
 // A lower limit changes no answer but those that become a step's coefficient.
+#[tactic(auto, using(crate::proofs::Limits::same_answer))]
 pub fn same_answer()
     ensures { SameAnswer }
 {}

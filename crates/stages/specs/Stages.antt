@@ -1,9 +1,9 @@
 -- Set-up and the stages alone, on what slices hold: why a call is turned down, and the slices after it.
-use Rattle.std.specs.Prelude.{ℕ, ℤ, Result, Ok, Err}
-use Rattle.refusal.specs.Refusals.{Judged}
+use Rattle.std.specs.Prelude.{ℕ, ℤ, Result}
 use Rattle.refusal.specs.declared.Refusal.{Refusal}
 use Rattle.decoder.specs.SetUp.{set_up_with}
 use Rattle.decoder.specs.declared.Settings.{Settings}
+use Rattle.decoder.specs.declared.SilkDecoderState.{SilkDecoderState}
 use Rattle.glue.specs.Answer.{glue_answer, glue_output}
 use Rattle.cng.specs.Answer.{cng_answer, cng_output}
 use Rattle.plc.specs.Answer.{plc_received, plc_lost, plc_lost_output}
@@ -12,20 +12,13 @@ use Rattle.layout.specs.Layout.{with_words, with_halves}
 use Rattle.layout.specs.Frame.{params_in, tapless, rows_in, with_lags}
 use Rattle.slices.specs.Slices.{Slices, slices, state_of, control_of, with_state, with_control, Answered, leaves}
 
--- how a call is judged that answers a
-abbrev pub judged_as : {A : Type 0} → Result A Refusal → Judged
-judged_as (Ok a) = Ok tt
-judged_as (Err r) = Err r
-
--- what it leaves of what was lent
-abbrev pub left_by : {A B : Type 0} → Result A Refusal → (A → B) → B → B
-left_by (Ok a) left lent = left a
-left_by (Err r) left lent = lent
+-- a call that answers a and changes the state alone
+abbrev pub stored_on : Result SilkDecoderState Refusal → Slices → Answered
+stored_on a m = leaves a (λ s. with_state m s m.output) m
 
 -- a state for a rate, a count of subframes and settings
 unfoldable pub set_up_on : ℤ → ℤ → Settings → Slices → Answered
-set_up_on rate subframes v m =
-    leaves (set_up_with rate subframes v) (λ s. with_state m s m.output) m
+set_up_on rate subframes v m = stored_on (set_up_with rate subframes v) m
 
 -- the synthesis of a received frame
 unfoldable pub core_on : Slices → Answered
@@ -38,7 +31,7 @@ core_on m =
 -- what concealment keeps of a received frame
 unfoldable pub plc_received_on : Slices → Answered
 plc_received_on m =
-    leaves (plc_received (state_of m) (params_in m.frame) (control_of m) (rows_in m.coefs)) (λ s. with_state m s m.output) m
+    stored_on (plc_received (state_of m) (params_in m.frame) (control_of m) (rows_in m.coefs)) m
 
 -- the concealment of a lost frame, of whose description it writes the lags alone
 unfoldable pub plc_lost_on : Slices → Answered

@@ -3,11 +3,10 @@
 #![tactic(auto)]
 
 ghost use Rattle.std.specs.Prelude.{◌≡◌, [], ◌≤◌, length};
-ghost use Rattle.layout.specs.Layout.{with_words, with_halves};
 ghost use Rattle.layout.specs.Frame.{FRAME};
 ghost use Rattle.layout.specs.Lent.{SameState, SameFrame};
 ghost use Rattle.slices.specs.Slices.{slices, lent};
-ghost use Rattle.stages.specs.Stages.{judged_as, left_by, set_up_on, core_on, plc_received_on, plc_lost_on, glue_on, noise_on};
+ghost use Rattle.stages.specs.Stages.{stored_on, set_up_on, core_on, plc_received_on, plc_lost_on, glue_on, noise_on};
 
 use cng::silk_cng;
 use decode_core::silk_decode_core;
@@ -26,9 +25,8 @@ fn stored(
     answer: &Result<SilkDecoderState, Refusal>,
     state: &mut StateSlices<'_>,
 ) -> Result<(), Refusal>
-    ensures answer { (result ≡ judged_as answer.now)
-        × (state.new.words.now ≡ left_by answer.now (with_words state.old.words.now) state.old.words.now)
-        × (state.new.halves.now ≡ left_by answer.now (with_halves state.old.halves.now) state.old.halves.now) }
+    ensures answer { record { judged = result; after = slices state.new.words.now state.new.halves.now [] [] [] [] }
+        ≡ stored_on answer.now (slices state.old.words.now state.old.halves.now [] [] [] []) }
     ensures same_reference { SameState state.old state.new }
 {
     match answer {

@@ -10,7 +10,7 @@ ghost use Rattle.stream.specs.Wav.{wav_header};
 ghost use Rattle.stream.specs.Header.{is_stream, samples_of, opened_of};
 ghost use Rattle.stream.specs.Records.{sample_bytes, Taken};
 
-use input::is_filled;
+use input::fill;
 use le::{Word, put_bytes, put_words, stands_at};
 use std::fmt;
 use std::io::{self, ErrorKind, Read};
@@ -38,12 +38,13 @@ fn put4(h: [u8; 44], at: usize, n: u64) -> [u8; 44]
     new
 }
 
+#[tactic(auto, unfolding(crate::specs::Wav::wav_header))]
 pub fn wav_header(hertz: u32, samples: u32) -> [u8; 44]
     ensures { result ≡ wav_header hertz samples }
 {
-    let bytes = 2 * (samples as u64);
+    let bytes = 2 * u64::from(samples);
     let sized = put4(put4(START, 4, 36 + bytes), 40, bytes);
-    put4(put4(sized, 24, hertz as u64), 28, 2 * (hertz as u64))
+    put4(put4(sized, 24, u64::from(hertz)), 28, 2 * u64::from(hertz))
 }
 
 // What a stream's header says: kHz, subframes of a frame, records, and the samples that they play.
@@ -118,6 +119,7 @@ impl fmt::Display for Unread {
 // A stream's first bytes.
 pub const MARK: [u8; 8] = *b"SILKVEC1";
 
+#[tactic(auto, unfolding(crate::specs::Header::is_stream))]
 fn is_stream(header: &[u8; 16]) -> bool
     ensures { result ≡ is_stream header.now }
 {
@@ -128,7 +130,7 @@ fn samples_of(header: &[u8; 16]) -> u64
     ensures { (result ≡ samples_of header.now) × (result < 2 ^ 62) }
 {
     let n = shape::frame_length(i32::from(header[8]), i32::from(header[9]));
-    (u32::at(header, 12) as u64) * (n as u64)
+    u64::from(u32::at(header, 12)) * (n as u64)
 }
 
 // The header of a file whose first bytes, got of them, were read.
@@ -161,8 +163,8 @@ pub fn read_header(header: &[u8; 16], got: usize) -> Result<Head, Unplayed>
     })
 }
 
-// A record's first bytes, with zeros behind them.
-fn whole(kind: u8, rest: &[u8]) -> [u8; 817]
+// A record's first bytes, with zeros behind them: 817 in all, the SIZE of crate record, which this crate does not name.
+fn padded(kind: u8, rest: &[u8]) -> [u8; 817]
     requires { length rest.now ≤ 816 }
     ensures { result ≡ kind ∷ rest.now ++ replicate (816 - length rest.now) 0 }
 {
@@ -191,7 +193,7 @@ impl Head {
     {
         let n = self.sample_bytes();
         let mut first = [0; 1];
-        if !is_filled(input, &mut first)? {
+        if !fill(input, &mut first)? {
             return Ok(Err(Unread::Cut(i)));
         }
         let kind = first[0];
@@ -200,10 +202,10 @@ impl Head {
         }
         let size = if kind == 1 { 176 + n } else { 0 };
         let mut rest = [0; 1456];
-        if !is_filled(input, &mut rest[..size + n])? {
+        if !fill(input, &mut rest[..size + n])? {
             return Ok(Err(Unread::Cut(i)));
         }
-        Ok(Ok(whole(kind, &rest[..size])))
+        Ok(Ok(padded(kind, &rest[..size])))
     }
 }
 

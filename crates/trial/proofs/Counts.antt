@@ -12,7 +12,7 @@ use lib.ListN.{length, replicate, length-replicate}
 use lib.Signed.{le_z, lt_z}
 use Rattle.edition.specs.Edition.{newer, is_edition}
 use Rattle.std.specs.Prelude.{Result, Ok}
-use Rattle.refusal.specs.Refusals.{Judged, code_of, if_accepted}
+use Rattle.refusal.specs.Refusals.{Judged, code_of}
 use Rattle.refusal.specs.declared.Refusal.{Refusal}
 use Rattle.refusal.proofs.Clear.{accepted, clear}
 use Rattle.shape.specs.Shape.{Shape, shape, is_rate, is_count, frame_length}

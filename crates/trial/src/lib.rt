@@ -21,7 +21,7 @@ pub fn trial_refusal(rate: i32, subframes: i32, squelch: i32, frames: u32) -> Re
 }
 
 // Each listener's counts. The frames of a load are not decoded: what becomes of each follows from the links alone.
-// The seven parameters stand apart, as in the definition, which takes them one by one.
+// The seven parameters meet in this call alone: a struct of them would be made for it, and taken apart in it at once.
 pub fn run(
     rate: i32,
     subframes: i32,
@@ -37,7 +37,7 @@ pub fn run(
     Ok(sixteen(seeds, squelch as u32, link, frames))
 }
 
-// The three counts of each listener add up to the frames sent, and every frame is played: claims, with no code.
+// The three counts of each listener add up to the frames sent, and every frame is played.
 pub fn adds_up()
     ensures { AddsUp × AllPlayed }
 {}

@@ -7,5 +7,6 @@ pub mod Order
 pub mod Parts
 pub mod Sizes
 pub mod Lists
+pub mod Fits
 pub mod Names
 pub mod Rows

@@ -1,14 +1,14 @@
 -- Lists that grow at their end, read by index, and the sizes of their elements.
-use Prim.Native.Nat.{ℕ, zero, suc, ◌*◌, ◌<◌, ◌≤◌, zero-le}
+use Prim.Native.Nat.{ℕ, zero, suc, ◌+◌, ◌*◌, ◌<◌, ◌≤◌, zero-le}
 use mathlib.Core.Path.{◌≡◌, refl, sym, ap, ◌∙◌}
 use mathlib.Core.Bool.{Bool, true, false}
-use mathlib.Core.List.{List, [], ◌∷◌, ◌++◌, map}
+use mathlib.Core.List.{List, [], ◌∷◌, ◌++◌, map, map-append}
 use native.Mathlib.Omega.{arith}
 use native.Mathlib.Nat.{le_of_suc-le-suc, le_antisymm, not-suc-le-zero, mul-suc}
 use borrow.Author.Tests.{ltb-true, ltb-false}
 use lib.Dec.{ltb}
-use lib.ListN.{length, get_or, set, drop, get_or-append}
-use lib.Seq.{drop-cons, set_at, append_snoc, get_or_at, ext_get_or}
+use lib.ListN.{length, get_or, set, take, drop, length-drop, get_or-append}
+use lib.Seq.{drop-cons, set_at, append_snoc, get_or_at, ext_get_or, length-take-le}
 use lib.IntN.{ℤ, pos, nat_abs}
 use Rattle.word.specs.Size.{size_at, sizes, Bounded}
 use Rattle.word.specs.Tabulate.{tabulate}
@@ -63,6 +63,15 @@ pub grow : (p d : List ℤ) (i : ℕ) (v : ℤ) → length p ≡ i → i < lengt
 grow p d i v e h =
     ap (λ (r : List ℤ). set (p ++ r) i v) (drop-cons d i (pos 0) h) ∙ set_at p _ _ v i e ∙ sym (append_snoc p v _)
 
+-- what such a turn reads is the other's
+pub rest_at : (p d : List ℤ) (i : ℕ) → length p ≡ i → i < length d → get_or (p ++ drop i d) i (pos 0) ≡ get_or d i (pos 0)
+rest_at p d i e h =
+    ap (λ (r : List ℤ). get_or (p ++ r) i (pos 0)) (drop-cons d i (pos 0) h) ∙ get_or_at p (get_or d i (pos 0)) (drop (suc i) d) (pos 0) i e
+
+-- a part of n elements has n
+pub length_part : {A : Type 0} (xs : List A) (at n : ℕ) → at + n ≤ length xs → length (take n (drop at xs)) ≡ n
+length_part xs at n h = length-take-le n (drop at xs) (simp length-drop (omega arith))
+
 -- the sum of sizes of elements that are within M
 pub sizes_le : (a : List ℤ) (j M : ℕ) → Bounded M a → sizes a j ≤ M * j
 unfolding sizes
@@ -107,3 +116,10 @@ pub tabulate-get_or : (xs : List ℤ) → tabulate (length xs) (λ i. get_or xs 
 tabulate-get_or xs =
     ext_get_or (pos 0) (tabulate (length xs) (λ i. get_or xs i (pos 0))) xs (length-tabulate (length xs) (λ i. get_or xs i (pos 0)))
     (λ i h. get_or-tabulate (length xs) (λ i. get_or xs i (pos 0)) i (rw (sym (length-tabulate (length xs) (λ i. get_or xs i (pos 0)))) h))
+
+-- a table, each number changed by g
+pub map-tabulate : (g : ℤ → ℤ) (f : ℕ → ℤ) (n : ℕ) → map g (tabulate n f) ≡ tabulate n (λ i. g (f i))
+unfolding tabulate
+map-tabulate g f zero = refl
+map-tabulate g f (suc n) =
+    map-append g (tabulate n f) (f n ∷ []) ∙ ap (λ (xs : List ℤ). xs ++ g (f n) ∷ []) (map-tabulate g f n)

@@ -103,19 +103,15 @@ unfolding clamp
 clamp_id B (pos n) h = rw (le-ltb B n h) refl
 clamp_id B (negsuc n) h = rw (le-ltb B n h) refl
 
--- the smaller and the larger of two numbers that fit do
+-- one of two numbers that fit, so the smaller and the larger
+pub cond_fits : {w : Width} (t : Bool) {a b : ℤ} → SFits w a → SFits w b → SFits w (cond t a b)
+cond_fits true h k = h
+cond_fits false h k = k
+
 pub min_fits : {w : Width} (a b : ℤ) → SFits w a → SFits w b → SFits w (min_ℤ a b)
 unfolding min_ℤ
-min_fits {w} a b h k = go (lt_z a b)
-  where
-    go : (t : Bool) → SFits w (cond t a b)
-    go true = h
-    go false = k
+min_fits a b h k = cond_fits (lt_z a b) h k
 
 pub max_fits : {w : Width} (a b : ℤ) → SFits w a → SFits w b → SFits w (max_ℤ a b)
 unfolding max_ℤ
-max_fits {w} a b h k = go (lt_z b a)
-  where
-    go : (t : Bool) → SFits w (cond t a b)
-    go true = h
-    go false = k
+max_fits a b h k = cond_fits (lt_z b a) h k

@@ -1,7 +1,7 @@
 -- Machine words and the integers modulo a power of two, over every width.
 use Prim.Native.Nat.{ℕ, suc, ◌+◌, ◌-◌, ◌*◌, ◌/◌, ◌%◌, ◌^◌, ◌<◌, ◌≤◌}
 use mathlib.Core.Path.{◌≡◌, refl, sym, ap, ◌∙◌, subst}
-use mathlib.Core.Bool.{Bool, true, false}
+use mathlib.Core.Bool.{Bool, true, false, cond}
 use native.Mathlib.Omega.{arith}
 use native.Mathlib.Nat.{mod-eq_of_lt, mul-mod_left, mul-le-mul_right, lt_of_lt_of_le}
 use borrow.Author.Tests.{lt-ltb, le-ltb, ltb-true, ltb-false, eqb-true, eqb-false}
@@ -12,7 +12,7 @@ use lib.IntN.{ℤ, pos, negsuc, neg_ℤ, ◌+ℤ◌, ◌-ℤ◌, ◌*ℤ◌, +�
 use lib.Pow.{pow_pos, pow_mono, pow-add, shl_lt, shl-shr, shr_lt, split, high, low, mod-pow-add, mod-mod-pow}
 use lib.Signed.{mag, shr_z}
 use mir.Syntax.{Width, w32}
-use mir.Val.{bits, to_z, of_z, SFits, hbits}
+use mir.Val.{bool_byte, bits, to_z, of_z, SFits, hbits}
 use mir.ValLaws.{half_full}
 use mir.Facts.{to_z_pos, to_z-of_z, sfits_to_z, sfits_widen}
 use Rattle.word.specs.Int.{eq_ℤ, mod_ℤ, wrap}
@@ -34,6 +34,11 @@ back h p = rw p (to_z-of_z h)
 -- and it fits another word if y does
 pub back_fits : {w w' : Width} {x y : ℤ} → SFits w y → SFits w' y → x ≡ y → SFits w' (to_z w (of_z w x))
 back_fits h k p = rw (back h p) k
+
+-- yes and no as numbers
+pub bool_number : (b : Bool) → pos (bool_byte b) ≡ cond b (pos 1) (pos 0)
+bool_number true = refl
+bool_number false = refl
 
 -- equal bits are equal numbers
 pub eq_words : (w : Width) (a b : ℤ) → SFits w a → SFits w b → eqb (of_z w a) (of_z w b) ≡ eq_ℤ a b

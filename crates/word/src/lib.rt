@@ -3,8 +3,8 @@
 // A shift takes the low bits of its amount, as a release build of Rust does.
 #![tactic(auto)]
 
-ghost use Rattle.std.specs.Prelude.{◌≡◌, ◌^◌, ◌<◌, pos, negsuc, nat_abs, neg_ℤ, ◌+ℤ◌, ◌-ℤ◌, ◌*ℤ◌, ℤ};
-ghost use Rattle.word.specs.Int.{wrap16, wrap32, wrap64, floor_div, mod_ℤ, min_ℤ, max_ℤ, clamp, sat16, sat32};
+ghost use Rattle.std.specs.Prelude.{◌≡◌, ◌^◌, ◌<◌, pos, nat_abs, neg_ℤ, ◌+ℤ◌, ◌-ℤ◌, ◌*ℤ◌, ℤ};
+ghost use Rattle.word.specs.Int.{wrap16, wrap32, wrap64, floor_div, mod_ℤ, sat16, sat32};
 
 // The same number, in 64 bits.
 pub fn wide(a: i32) -> i64
@@ -34,11 +34,19 @@ pub trait Number: Copy {
         ensures { result ≡ number self };
 }
 
+impl Number for i8 {
+    ghost number = { λ x. x };
+
+    fn number(self) -> i32 {
+        wide8(self)
+    }
+}
+
 impl Number for i16 {
     ghost number = { λ x. x };
 
     fn number(self) -> i32 {
-        i32::from(self)
+        wide16(self)
     }
 }
 
@@ -63,13 +71,6 @@ pub fn low16(x: i32) -> i16
     ((x << 16) >> 16) as i16
 }
 
-// The whole product.
-pub fn smull(a: i32, b: i32) -> i64
-    ensures { result ≡ a *ℤ b }
-{
-    i64::from(a) * i64::from(b)
-}
-
 // The whole sum.
 pub fn sum64(a: i32, b: i32) -> i64
     ensures { result ≡ a +ℤ b }
@@ -77,14 +78,7 @@ pub fn sum64(a: i32, b: i32) -> i64
     i64::from(a) + i64::from(b)
 }
 
-// The whole difference.
-pub fn diff64(a: i32, b: i32) -> i64
-    ensures { result ≡ a -ℤ b }
-{
-    i64::from(a) - i64::from(b)
-}
-
-// Divided by 2 ^ s, rounded down. A shift takes the low bits of its amount, as in Rust's release builds.
+// Divided by 2 ^ s, rounded down.
 pub fn shr64(x: i64, s: i32) -> i64
     ensures { result ≡ floor_div x (2 ^ mod_ℤ s 64) }
 {
@@ -131,6 +125,7 @@ pub fn sum32(a: i16, b: i16) -> i32
     i32::from(a) + i32::from(b)
 }
 
+#[tactic(auto, using(crate::proofs::Words::kept, crate::proofs::Names::neg_is))]
 pub fn neg32(a: i32) -> i32
     ensures { result ≡ wrap32 (neg_ℤ a) }
 {
@@ -143,18 +138,21 @@ pub fn abs32(a: i32) -> i32
     a.wrapping_abs()
 }
 
+#[tactic(auto, using(crate::proofs::Names::add_is))]
 pub fn add32(a: i32, b: i32) -> i32
     ensures { result ≡ wrap32 (a +ℤ b) }
 {
     a.wrapping_add(b)
 }
 
+#[tactic(auto, using(crate::proofs::Names::sub_is))]
 pub fn sub32(a: i32, b: i32) -> i32
     ensures { result ≡ wrap32 (a -ℤ b) }
 {
     a.wrapping_sub(b)
 }
 
+#[tactic(auto, using(crate::proofs::Names::mul_is))]
 pub fn mul32(a: i32, b: i32) -> i32
     ensures { result ≡ wrap32 (a *ℤ b) }
 {
@@ -162,31 +160,11 @@ pub fn mul32(a: i32, b: i32) -> i32
 }
 
 // The lowest bit.
+#[tactic(auto, using(crate::proofs::Words::low_word))]
 pub fn low_bit(x: i64) -> i64
     ensures { result ≡ pos (mod_ℤ x 2) }
 {
     x & 1
-}
-
-// The smaller.
-pub fn min32(a: i32, b: i32) -> i32
-    ensures { result ≡ min_ℤ a b }
-{
-    a.min(b)
-}
-
-// The larger.
-pub fn max32(a: i32, b: i32) -> i32
-    ensures { result ≡ max_ℤ a b }
-{
-    a.max(b)
-}
-
-// The nearest number from low to high. The library's clamp asks that low is no more than high, and this does not.
-pub fn limit32(a: i32, low: i32, high: i32) -> i32
-    ensures { result ≡ clamp low high a }
-{
-    if a < low { low } else { a.min(high) }
 }
 
 // The nearest number of 16 bits.

@@ -5,9 +5,9 @@ use native.Mathlib.Numerals.{add-one}
 use native.Mathlib.Omega.{arith}
 use lib.ListN.{length, take, length-set}
 use lib.Seq.{take-suc-set}
-use Rattle.chain.specs.Chain.{records_in, next_of, is_among, chain_from, chain_of, padded, order_of}
+use Rattle.chain.specs.Chain.{records_in, next_of, is_among, chain_from, chain_of, padded, route_of}
 use Rattle.chain.proofs.Chains.{found}
-use Rattle.chain.proofs.Steps.{whole, step_end, step-none, step_past, step-met, step-on, records_more, order_through}
+use Rattle.chain.proofs.Steps.{whole, step_end, step-none, step_past, step-met, step-on, records_more, route_through}
 use borrow.Author.Rules.{rules}
 use Rattle.chain.proofs.chain.Goals.{After-contains, Else-next-eq0}
 use Rattle.chain.proofs.chain.Goals as goal
@@ -48,7 +48,7 @@ pub returns-then-next-eq0 : goal.returns-then-next-eq0
 returns-then-next-eq0 c =
     let b = c.args.bytes.now in
     let i = c.loop-k.invariant in
-    order_through b c.loop-k.records c.loop-k.k
+    route_through b c.loop-k.records c.loop-k.k
     (i.7 ∙ step_end b (take c.loop-k.k c.loop-k.records) c.loop-k.at (length b / 1024 - 1 - c.loop-k.k) (sym c.next_of-next.ensures ∙ c.if-next-eq0.true))
     i.6 i.5 (omega arith)
 
@@ -57,21 +57,21 @@ returns-then-k-n c =
     let b = c.args.bytes.now in
     let met = take c.loop-k.k c.loop-k.records in
     let z : length b / 1024 - 1 - c.loop-k.k ≡ 0 = let t = c.if-k-n.true in omega arith in
-    ap order_of (sym (c.loop-k.invariant.7 ∙ ap (λ (m : ℕ). chain_from b m met c.loop-k.at) z ∙ step-none b met c.loop-k.at (on (goal.at.returns-then-k-n c).Else-next-eq0)))
+    ap route_of (sym (c.loop-k.invariant.7 ∙ ap (λ (m : ℕ). chain_from b m met c.loop-k.at) z ∙ step-none b met c.loop-k.at (on (goal.at.returns-then-k-n c).Else-next-eq0)))
 
 pub returns-then-next-n : goal.returns-then-next-n
 unfolding records_in
 returns-then-next-n c =
     let b = c.args.bytes.now in
     let h : records_in b ≤ next_of b c.loop-k.at = let t = c.if-next-n.true in omega (arith, c.next_of-next.ensures) in
-    ap order_of (sym (c.loop-k.invariant.7 ∙ step_past b (take c.loop-k.k c.loop-k.records) c.loop-k.at (length b / 1024 - 1 - c.loop-k.k) (on (goal.at.returns-then-next-n c).Else-next-eq0) h))
+    ap route_of (sym (c.loop-k.invariant.7 ∙ step_past b (take c.loop-k.k c.loop-k.records) c.loop-k.at (length b / 1024 - 1 - c.loop-k.k) (on (goal.at.returns-then-next-n c).Else-next-eq0) h))
 
 pub returns-then-contains : goal.returns-then-contains
 returns-then-contains c =
     let b = c.args.bytes.now in
     let met = take c.loop-k.k c.loop-k.records in
     let a = (goal.at.returns-then-contains c).After-contains in
-    ap order_of (sym (c.loop-k.invariant.7 ∙ step-met b met c.loop-k.at (length b / 1024 - 1 - c.loop-k.k) (on (goal.at.returns-then-contains c).Else-next-eq0) (below a) (sym (met-is a) ∙ c.if-contains.true)))
+    ap route_of (sym (c.loop-k.invariant.7 ∙ step-met b met c.loop-k.at (length b / 1024 - 1 - c.loop-k.k) (on (goal.at.returns-then-contains c).Else-next-eq0) (below a) (sym (met-is a) ∙ c.if-contains.true)))
 
 pub loop-k-preserved : goal.loop-k-preserved
 loop-k-preserved c =
@@ -97,6 +97,3 @@ loop-k-preserved c =
           ∙ ap (λ (m : ℕ). chain_from b (n - 1 - (k + 1)) (met ++ m ∷ []) m) (sym (next-is a))
           ∙ ap (λ (t : List ℕ). chain_from b (n - 1 - (k + 1)) t v) (sym (rw (add-one k) (take-suc-set r k v (omega arith)))),
     )
-
-pub returns : goal.returns
-returns c = absurd (omega (arith, c.loop-k.invariant.4))

@@ -7,11 +7,10 @@ use lib.ListN.{length, get_or}
 use mir.Syntax.{w16, w32}
 use mir.Facts.{to_z-of_z}
 use Rattle.word.specs.Tabulate.{tabulate}
-use Rattle.word.proofs.Lists.{length-tabulate}
+use Rattle.word.proofs.Lists.{length-tabulate, rest_at}
 use Rattle.word.proofs.Words.{kept, got}
 use Rattle.sigproc.specs.Synthesis.{played}
 use Rattle.sigproc.proofs.Fill.{turn, filled}
-use Rattle.nlsf.proofs.Parts.{rest_at}
 use Rattle.cng.proofs.added.Goals as goal
 
 pub loop-i-init : goal.loop-i-init

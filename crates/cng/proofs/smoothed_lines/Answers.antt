@@ -8,10 +8,9 @@ use lib.ListN.{length, get_or, take}
 use lib.Seq.{length-take-le, get_or-take}
 use mir.Syntax.{w16}
 use Rattle.word.specs.Tabulate.{tabulate}
-use Rattle.word.proofs.Lists.{length-tabulate, tabulate_cong}
+use Rattle.word.proofs.Lists.{length-tabulate, rest_at, tabulate_cong}
 use Rattle.word.proofs.Words.{kept, got}
 use Rattle.sigproc.proofs.Fill.{turn, filled}
-use Rattle.nlsf.proofs.Parts.{rest_at}
 use Rattle.shape.proofs.Orders.{size_high}
 use Rattle.cng.specs.Noise.{smoothed_line, smoothed_lines}
 use Rattle.cng.proofs.smoothed_lines.Invariants.{line}

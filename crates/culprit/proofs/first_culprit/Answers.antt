@@ -13,7 +13,7 @@ use Rattle.record.specs.Recorded.{Recorded, lost, recorded_in}
 use Rattle.recording.specs.Frames.{recorded_at}
 use Rattle.recording.proofs.Back.{rest}
 use Rattle.playback.specs.Playback.{call_of, sound_of}
-use Rattle.playback.specs.declared.Sound.{Sound}
+use Rattle.record.specs.declared.Sound.{Sound}
 use Rattle.culprit.specs.Search.{was_received, passes, is_culprit, first_from}
 use Rattle.culprit.proofs.Laws.{behind-lies, state_first, state_on, culprit_is, first-start, first_here, first_later, first-none}
 use Rattle.culprit.proofs.first_culprit.Goals.{After-is_culprit}

@@ -1,3 +1,4 @@
+use borrow.Author.Rules.{rules}
 use mir.Syntax.{w8, w32}
 use Rattle.word.proofs.Words.{kept}
 use Rattle.decode_core.specs.Core.{transition, setting_of}
@@ -6,7 +7,7 @@ use Rattle.decode_core.proofs.setting_of.Goals as goal
 pub returns : goal.returns
 unfolding setting_of transition
 returns c =
-    let s = c.args.s in
+    let s = c.args.s.now in
     rw (
       c.count_of-nb_subfr.ensures,
       c.subfr_length-subfr_length.ensures,
@@ -16,10 +17,10 @@ returns c =
       c.transition.ensures,
       c.interpolates-interpolated.ensures,
       c.is_voiced-voiced.ensures,
-      kept w32 s.fs_khz c.struct_told-1.given.1.1.1.1.1.0.1,
-      kept w32 s.nb_subfr c.struct_told-2-1.given.1.1.1.1.1.1.0.1,
-      kept w32 s.loss_cnt c.struct_told-3-1.given.1.1.1.1.1.1.1.1.1.1.1.1.1.1.0.1,
-      kept w32 s.prev_signal_type c.struct_told-4-1.given.1.1.1.1.1.1.1.1.1.1.1.1.1.1.1.0.1,
-      kept w8 c.args.q.nlsf_interp_coef_q2 c.struct_told-6-1.given.1.1.0.1,
-      kept w32 s.lag_prev c.struct_told-5-1.given.1.1.1.1.0.1,
+      kept w32 s.fs_khz (search rules),
+      kept w32 s.nb_subfr (search rules),
+      kept w32 s.loss_cnt (search rules),
+      kept w32 s.prev_signal_type (search rules),
+      kept w8 c.args.q.nlsf_interp_coef_q2 (search rules),
+      kept w32 s.lag_prev (search rules),
     )

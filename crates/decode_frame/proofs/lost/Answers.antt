@@ -21,25 +21,25 @@ use Rattle.decode_frame.proofs.lost.Goals.{After-finished, After-plc_conceal}
 use Rattle.decode_frame.proofs.lost.Goals as goal
 
 -- the rate and the count of what concealment leaves
-khz : (c : After-plc_conceal) → c.plc_conceal.result.state.fs_khz ≡ c.args.a.now.state.fs_khz
+khz : (c : After-plc_conceal) → c.plc_conceal.new.a.state.fs_khz ≡ c.args.a.now.state.fs_khz
 unfolding plc_conceal
-khz c = ap (λ r. r.state.fs_khz) c.plc_conceal.ensures.0
+khz c = ap (λ s. s.fs_khz) c.plc_conceal.ensures.0
 
-nb : (c : After-plc_conceal) → c.plc_conceal.result.state.nb_subfr ≡ c.args.a.now.state.nb_subfr
+nb : (c : After-plc_conceal) → c.plc_conceal.new.a.state.nb_subfr ≡ c.args.a.now.state.nb_subfr
 unfolding plc_conceal
-nb c = ap (λ r. r.state.nb_subfr) c.plc_conceal.ensures.0
+nb c = ap (λ s. s.nb_subfr) c.plc_conceal.ensures.0
 
 -- what concealment leaves of noise, and one loss more
-cng : (c : After-plc_conceal) → c.plc_conceal.result.state.s_cng ≡ c.args.a.now.state.s_cng
+cng : (c : After-plc_conceal) → c.plc_conceal.new.a.state.s_cng ≡ c.args.a.now.state.s_cng
 unfolding plc_conceal
-cng c = ap (λ r. r.state.s_cng) c.plc_conceal.ensures.0
+cng c = ap (λ s. s.s_cng) c.plc_conceal.ensures.0
 
-loss : (c : After-plc_conceal) → eq_ℤ c.plc_conceal.result.state.loss_cnt (pos 0) ≡ false
+loss : (c : After-plc_conceal) → eq_ℤ c.plc_conceal.new.a.state.loss_cnt (pos 0) ≡ false
 unfolding plc_conceal
 loss c =
     let s = c.args.a.now.state in
     let b = bounds (rate_of s.fs_khz) s c.requires.0 in
-    ap (λ r. eq_ℤ r.state.loss_cnt (pos 0)) c.plc_conceal.ensures.0 ∙ ap (λ n. eq_ℤ (n +ℤ pos 1) (pos 0)) b.decoder.loss_cnt
+    ap (λ t. eq_ℤ t.loss_cnt (pos 0)) c.plc_conceal.ensures.0 ∙ ap (λ n. eq_ℤ (n +ℤ pos 1) (pos 0)) b.decoder.loss_cnt
     ∙ eq_ℤ_ne (pos (nat_abs s.loss_cnt + 1)) (pos 0) (λ e. let z : nat_abs s.loss_cnt + 1 ≡ 0 = ap nat_abs e in omega arith)
 
 -- the frame before a squelch
@@ -48,9 +48,9 @@ unfolding lost remembered plc_conceal
 whole c =
     let f = c.finished in
     let r = c.remembered in
-    let x = c.plc_conceal.ensures.1 ∙ all_samples _ _ _ c.requires.2 in
-    let st = ap (λ t. t.state) c.plc_conceal.ensures.0 in
-    let ct = ap (λ t. t.control) c.plc_conceal.ensures.0 in
+    let x = c.plc_conceal.ensures.2 ∙ all_samples _ _ _ c.requires.2 in
+    let st = c.plc_conceal.ensures.0 in
+    let ct = c.plc_conceal.ensures.1 in
     let t = ap (λ (b : Answer). b.state) r.ensures ∙ λ i. remembered (shape_of (st i)) (st i) (x i) in
     let u = ap (λ (b : Answer). b.control) r.ensures ∙ ct in
     f.ensures ∙ λ i. finished (shape_of (t i)) (record { state = t i; control = u i; samples = x i })
@@ -66,7 +66,7 @@ remembered-requires c =
     let s = c.args.a.now.state in
     let o = (goal.at.remembered-requires c).After-plc_conceal in
     let b = bounds (rate_of s.fs_khz) s c.requires.0 in
-    let l : frame_length (shape_of c.plc_conceal.result.state) ≡ frame_length (shape_of s) = λ i. frame_length (shape (khz o i) (nb o i)) in
+    let l : frame_length (shape_of c.plc_conceal.new.a.state) ≡ frame_length (shape_of s) = λ i. frame_length (shape (khz o i) (nb o i)) in
     (ap is_rate (khz o) ∙ b.sizes.rate, ap is_count (nb o) ∙ b.sizes.count, omega (arith, c.plc_conceal.auto, c.requires.2, l))
 
 pub finished-requires : goal.finished-requires

@@ -1,26 +1,22 @@
-use mathlib.Core.Path.{◌≡◌, refl, sym, ◌∙◌}
 use mathlib.Core.List.{map}
-use lib.ListN.{get_or, length}
-use lib.IntN.{pos}
-use Prim.Native.Nat.{◌<◌}
-use native.Mathlib.Numerals.{add-one}
-use mir.Syntax.{w32}
-use borrow.Author.Rules.{rules}
-use Rattle.std.proofs.lemmas.List.{get_or-map, get_or-take}
-use Rattle.word.proofs.Words.{kept}
-use Rattle.decoder.specs.Ranges.{all_within}
+use mathlib.Core.Path.{sym, ap, ◌∙◌}
+use lib.ListN.{take}
+use Rattle.std.proofs.Common.{rules}
+use Rattle.std.specs.List.{list_all}
+use Rattle.std.proofs.lemmas.List.{take-map, length-map}
+use Rattle.std.proofs.lemmas.List.Folds.{list_all-map}
+use Rattle.std.proofs.lemmas.Iterator.{YieldsList-from_slice}
+use Rattle.std.proofs.lemmas.Iterator.Search.{all_from_yields_List}
+use Rattle.decoder.specs.Ranges.{within}
+use Rattle.decoder.proofs.Each.{each_within}
 use Rattle.decoder.proofs.all_within.Goals as goal
 
-pub loop-x-init : goal.loop-x-init
-unfolding all_within
-loop-x-init g c = refl
-
-pub loop-x-preserved : goal.loop-x-preserved
-unfolding all_within
-loop-x-preserved g c =
-    let i = c.loop-x.x-index in
-    let x = c.x-item.result in
-    let l : i < c.args.n = search rules in
-    let k : i < length c.args.xs.now = search rules in
-    let t : get_or (map g.T.Number.number c.args.xs.now) i (pos 0) ≡ c.number.result = rw (c.number.ensures, get_or-map g.T.Number.number c.args.xs.now i x (pos 0) k, sym (c.x-item.is ∙ get_or-take c.args.n c.args.xs.now i x l)) in
-    rw (add-one, c.within-ok.ensures, kept w32 c.number.result c.number.type_inv, t, c.loop-x.invariant)
+pub returns : goal.returns
+returns g c =
+    let a = c.args in
+    let f = g.T.Number.number in
+    let p = within a.low a.high in
+    all_from_yields_List (λ x. p (f x)) _ _ c.all.result c.all.ensures.ran (YieldsList-from_slice (take a.n a.xs.now) cc) (λ x b q k. search rules)
+    ∙ sym (list_all-map p f (take a.n a.xs.now))
+    ∙ ap (list_all p) (sym (take-map f a.n a.xs.now))
+    ∙ each_within a.low a.high (map f a.xs.now) a.n (rw length-map c.requires)

@@ -5,11 +5,7 @@ use Rattle.word.proofs.Words.{kept}
 use Rattle.decoder.specs.Ranges.{cng_fits}
 use mathlib.Core.Bool.{◌&&◌}
 use Rattle.decoder.proofs.Between.{only-or}
-use Rattle.decoder.proofs.Tests.{small}
 use Rattle.decoder.proofs.cng_fits.Goals as goal
-
-pub equals-requires : goal.equals-requires
-equals-requires c = rw c.rate_of.ensures (small _)
 
 pub returns : goal.returns
 unfolding cng_fits

@@ -1,11 +1,10 @@
 use borrow.Author.Rules.{rules}
 use mir.Syntax.{w32}
 use mir.Facts.{to_z-of_z}
-use Rattle.word.proofs.Words.{kept}
+use Rattle.word.proofs.Words.{kept, eq_words}
 use Rattle.decoder.specs.Ranges.{decoder_fits}
 use Rattle.decoder.specs.Reshape.{reshaped_by, reshaped}
 use Rattle.decoder.proofs.Between.{only-or}
-use Rattle.decoder.proofs.Tests.{same_bits}
 use Rattle.decoder.proofs.decoder_fits.Goals as goal
 
 pub returns : goal.returns
@@ -24,7 +23,7 @@ returns c nb =
       c.is_lag.ensures,
       kept w32 c.chosen-lag.result c.chosen-lag.type_inv,
       c.chosen-lag.ensures,
-      same_bits w32 c.args.khz c.args.s.now.fs_khz c.ranges.khz (record { sfits = (search rules) }),
+      eq_words w32 c.args.khz c.args.s.now.fs_khz c.ranges.khz (record { sfits = (search rules) }),
       kept w32 c.args.s.now.prev_gain_q16 (search rules),
       kept w32 c.args.s.now.loss_cnt (search rules),
       kept w32 c.args.s.now.first_frame_after_reset (search rules),

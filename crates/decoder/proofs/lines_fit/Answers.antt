@@ -1,6 +1,4 @@
-use Rattle.std.proofs.lemmas.List.{map-id}
 use borrow.Author.Rules.{rules}
-use mir.Facts.{to_z-of_z}
 use mathlib.Core.Path.{◌≡◌}
 use lib.ListN.{length}
 use Rattle.shape.proofs.Shapes.{order_le}
@@ -8,12 +6,3 @@ use Rattle.decoder.proofs.lines_fit.Goals as goal
 
 pub all_within-requires : goal.all_within-requires
 all_within-requires c = let l : length c.args.lines.now ≡ 16 = search rules in rw (c.lpc_order.ensures, l) (order_le _)
-
-pub returns : goal.returns
-returns c =
-    rw (
-      c.all_within.ensures,
-      map-id,
-      c.lpc_order.ensures,
-      to_z-of_z c.ranges.khz,
-    )

@@ -4,11 +4,7 @@ use mir.Facts.{to_z-of_z}
 use Rattle.word.proofs.Words.{kept}
 use Rattle.decoder.specs.Ranges.{plc_fits}
 use Rattle.decoder.proofs.Between.{only-or}
-use Rattle.decoder.proofs.Tests.{small}
 use Rattle.decoder.proofs.plc_fits.Goals as goal
-
-pub equals-requires : goal.equals-requires
-equals-requires c = rw c.rate_of.ensures (small _)
 
 pub returns : goal.returns
 unfolding plc_fits

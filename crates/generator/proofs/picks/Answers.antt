@@ -30,7 +30,7 @@ loop-v-preserved g c =
     let a = c.args in
     let l = c.loop-v in
     let r = c.silk_rand-x in
-    let f = g.T.Narrow.value in
+    let f = g.T.Number.number in
     let p = pick_by a.low a.count a.seed (a.at + c.loop-v.v-index) (to_z-of_z c.ranges.low) (to_z-of_z c.ranges.seed) c.loop-v.invariant.last (got w32 c.silk_rand-x.type_inv c.silk_rand-x.ensures) c.scaled.ensures in
     let v = c.narrowed.ensures ∙ got w64 c.scaled.type_inv p in
     record {

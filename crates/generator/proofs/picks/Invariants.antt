@@ -8,5 +8,5 @@ abbrev pub invariant-loop-v : goal.invariant-loop-v
 invariant-loop-v g l =
     record {
       last : l.x ≡ drawn l.seed (l.at + l.v-index);
-      stored : map g.T.Narrow.value l.to ≡ picks l.low l.count l.seed l.at l.v-index ++ drop l.v-index (map g.T.Narrow.value l.initial.to);
+      stored : map g.T.Number.number l.to ≡ picks l.low l.count l.seed l.at l.v-index ++ drop l.v-index (map g.T.Number.number l.initial.to);
     }

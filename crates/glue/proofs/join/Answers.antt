@@ -51,15 +51,6 @@ invariant_of-own c =
       most = subst (λ (z : ℤ). nat_abs z ≤ 31) (sym q) (shift_most x c.requires.1);
     }
 
-pub start_gain-gain-requires : goal.start_gain-gain-requires
-start_gain-gain-requires c =
-    let o = (goal.at.start_gain-gain-requires c).After-lowered-concealed in
-    rw (concealed o, received o) (refl, refl)
-
-pub slope_of-slope-requires : goal.slope_of-slope-requires
-slope_of-slope-requires c =
-    rw (to_z_pos w32 {n = length c.args.frame.now} (omega arith)) (refl, c.requires.0)
-
 pub returns-then-concealed-received : goal.returns-then-concealed-received
 unfolding joined
 returns-then-concealed-received c =

@@ -1,4 +1,4 @@
-use mathlib.Core.Path.{◌≡◌, refl, sym, ◌∙◌}
+use mathlib.Core.Path.{◌≡◌, sym, ◌∙◌}
 use mathlib.Core.List.{append-nil}
 use native.Mathlib.Numerals.{add-one}
 use native.Mathlib.Omega.{arith}
@@ -23,9 +23,6 @@ sample c =
 
 next : (c : After-add32-g) → to_z w32 (of_z w32 c.add32-g.result) ≡ wrap32 (to_z w32 c.loop-x.g-bits +ℤ to_z w32 (of_z w32 c.args.slope))
 next c = kept w32 _ c.add32-g.type_inv ∙ c.add32-g.ensures
-
-pub loop-x-init : goal.loop-x-init
-loop-x-init c = refl
 
 pub returns-then-g-gt65536 : goal.returns-then-g-gt65536
 returns-then-g-gt65536 c =

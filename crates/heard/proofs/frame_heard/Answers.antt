@@ -11,6 +11,6 @@ returns c =
     let l = to_z-of_z c.ranges.limit in
     let h = to_z-of_z c.ranges.khz in
     let n = to_z-of_z c.ranges.nb_subfr in
-    let x = recorded_in c.args.record.now.bytes.now in
+    let x = recorded_in c.args.r.now.bytes.now in
     let e = c.frame_sound.ensures ∙ λ i. sound_of c.args.s (call_of (h i) (n i) x) in
     c.heard_in.ensures ∙ (λ i. heard_in (l i) (h i) (n i) (e i)) ∙ heard-shape c.args.limit c.args.s c.args.khz c.args.nb_subfr x

@@ -5,11 +5,6 @@ use Rattle.decoder.specs.Rows.{coming_rows}
 use Rattle.judge.specs.Rows.{description_rows}
 use Rattle.judge.proofs.received.Goals as goal
 
-pub returns-in_err-coming_rows : goal.returns-in_err-coming_rows
-returns-in_err-coming_rows c =
-    let a = c.args in
-    run_stops (coming_rows a.khz a.nb_subfr a.s.now) _ (rw (c.coming_rows.ensures, to_z-of_z c.ranges.khz, to_z-of_z c.ranges.nb_subfr)) c.in_err-coming_rows.was c.from_residual.ensures.1
-
 pub returns-in_err-description : goal.returns-in_err-description
 returns-in_err-description c =
     let a = c.args in

@@ -1,20 +1,17 @@
-use mathlib.Core.Path.{refl}
-use native.Mathlib.Nat.{le_antisymm}
-use native.Mathlib.Numerals.{add-one}
-use borrow.Author.Rules.{rules}
-use mir.Syntax.{w32}
-use Rattle.word.proofs.Words.{kept}
-use Rattle.judge.specs.Taps.{taps_fit}
+use mathlib.Core.Path.{refl, sym, ◌∙◌}
+use Rattle.std.proofs.Common.{arith, rules}
+use Rattle.std.specs.List.{range_with_len}
+use Rattle.std.proofs.lemmas.List.Folds.{list_all-map}
+use Rattle.std.proofs.lemmas.Iterator.{YieldsList-from_range}
+use Rattle.std.proofs.lemmas.Iterator.Search.{all_from_yields_List}
+use Rattle.judge.specs.Taps.{tap_sum}
+use Rattle.judge.proofs.Sums.{in_word, each_sum}
 use Rattle.judge.proofs.taps_fit.Goals as goal
 
-pub loop-k-init : goal.loop-k-init
-unfolding taps_fit
-loop-k-init c = (search rules, refl)
-
-pub loop-k-preserved : goal.loop-k-preserved
-unfolding taps_fit
-loop-k-preserved c =
-    (search rules, rw (add-one, c.within-ok.ensures, kept w32 _ c.tap_sum.type_inv, c.tap_sum.ensures.0, c.loop-k.invariant.1))
-
 pub returns : goal.returns
-returns c = rw (c.loop-k.invariant.1, le_antisymm c.loop-k.invariant.0 c.loop-k-test.false)
+returns c =
+    let t = c.args.taps.now in
+    let n = c.args.n in
+    all_from_yields_List (λ k. in_word (tap_sum t k)) _ _ c.all.result c.all.ensures.ran (YieldsList-from_range 0 n n refl (omega arith)) (λ x b q k. search rules)
+    ∙ sym (list_all-map in_word (tap_sum t) (range_with_len 0 n))
+    ∙ each_sum t n

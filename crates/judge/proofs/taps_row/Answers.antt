@@ -1,16 +1,10 @@
 use borrow.Author.Rules.{rules}
-use native.Mathlib.Omega.{arith}
 use mir.Syntax.{w32}
-use mir.Val.{to_z, of_z}
 use mir.Facts.{to_z-of_z}
 use Rattle.word.proofs.Words.{kept}
-use Rattle.shape.proofs.Shapes.{count_le}
 use Rattle.decoder.proofs.Between.{only-or}
 use Rattle.judge.specs.Rows.{taps_row}
 use Rattle.judge.proofs.taps_row.Goals as goal
-
-pub taps_fit-requires : goal.taps_fit-requires
-taps_fit-requires c = omega (arith, c.count_of.ensures, count_le (to_z w32 (of_z w32 c.args.nb_subfr)))
 
 pub returns : goal.returns
 unfolding taps_row

@@ -1,6 +1,5 @@
-use mathlib.Core.Path.{◌≡◌, refl, sym, ap, ◌∙◌}
+use mathlib.Core.Path.{◌≡◌, refl, ap, ◌∙◌}
 use mathlib.Core.List.{[], ◌∷◌, ◌++◌}
-use native.Mathlib.Omega.{arith}
 use lib.ListN.{length}
 use mir.Syntax.{w32}
 use Rattle.word.proofs.Words.{kept}
@@ -17,24 +16,6 @@ twenty c = ap length c.numbers-numbers.ensures
 five : (c : After-last_numbers-last) → length c.last_numbers-last.result ≡ 5
 unfolding last_numbers
 five c = ap length c.last_numbers-last.ensures
-
-pub slice_bounds-copy_at-end-4 : goal.slice_bounds-copy_at-end-4
-slice_bounds-copy_at-end-4 c = sym (twenty (goal.at.slice_bounds-copy_at-end-4 c).After-numbers-numbers)
-
-pub copy_at-requires-4 : goal.copy_at-requires-4
-copy_at-requires-4 c =
-    omega (arith, c.copy_at.auto, c.copy_at-2.auto, c.copy_at-3.auto, c.requires, twenty (goal.at.copy_at-requires-4 c).After-numbers-numbers)
-
-pub copy_at-requires-6 : goal.copy_at-requires-6
-copy_at-requires-6 c =
-    omega (arith, c.copy_at.auto, c.copy_at-2.auto, c.copy_at-3.auto, c.copy_at-4.auto, c.copy_at-5.auto, c.requires, twenty (goal.at.copy_at-requires-6 c).After-numbers-numbers)
-
-pub slice_bounds-copy_at-end-7 : goal.slice_bounds-copy_at-end-7
-slice_bounds-copy_at-end-7 c = sym (five (goal.at.slice_bounds-copy_at-end-7 c).After-last_numbers-last)
-
-pub copy_at-requires-7 : goal.copy_at-requires-7
-copy_at-requires-7 c =
-    omega (arith, c.copy_at.auto, c.copy_at-2.auto, c.copy_at-3.auto, c.copy_at-4.auto, c.copy_at-5.auto, c.copy_at-6.auto, c.requires, twenty (goal.at.copy_at-requires-7 c).After-numbers-numbers, five (goal.at.copy_at-requires-7 c).After-last_numbers-last)
 
 pub returns : goal.returns
 unfolding state_words

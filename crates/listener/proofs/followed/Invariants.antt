@@ -1,4 +1,3 @@
-use Prim.Native.Nat.{◌-◌}
 use mathlib.Core.Path.{◌≡◌}
 use Rattle.generator.specs.Draws.{drawn}
 use Rattle.listener.specs.Link.{good_at}

@@ -1,13 +1,10 @@
-use Prim.Native.Nat.{◌*◌}
-use mathlib.Core.Path.{ap, ◌∙◌}
-use lib.IntN.{ℤ}
+use mathlib.Core.Path.{refl, ◌∙◌}
 use mir.Syntax.{w32}
 use mir.Facts.{to_z-of_z}
 use Rattle.word.proofs.Words.{got}
-use Rattle.generator.specs.Draws.{drawn}
 use Rattle.load.specs.Load.{before}
 use Rattle.load.proofs.before.Goals as goal
 
 pub returns : goal.returns
 unfolding before
-returns c = got w32 c.drawn.type_inv c.drawn.ensures ∙ ap (λ (z : ℤ). drawn z (402 * c.args.number)) (to_z-of_z c.ranges.seed)
+returns c = got w32 c.drawn.type_inv c.drawn.ensures ∙ rw (c.from.ensures, to_z-of_z c.ranges.seed) refl

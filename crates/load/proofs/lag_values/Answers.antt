@@ -1,6 +1,5 @@
 use Prim.Native.Nat.{◌≤◌}
 use native.Mathlib.Omega.{arith}
-use mir.Facts.{to_z-of_z}
 use Rattle.shape.proofs.Shapes.{rate_le}
 use Rattle.load.proofs.lag_values.Goals.{After-rate_of}
 use Rattle.load.proofs.lag_values.Goals as goal
@@ -16,6 +15,3 @@ overflow_mul-result c = omega (arith, small c)
 
 pub overflow_add-result : goal.overflow_add-result
 overflow_add-result c = omega (arith, small c)
-
-pub returns : goal.returns
-returns c = rw (c.rate_of.ensures, to_z-of_z c.ranges.khz)

@@ -10,12 +10,6 @@ use Rattle.word.specs.Int.{mod_ℤ}
 use Rattle.macros.specs.Fixed.{clz32, frac_q7}
 use Rattle.macros.proofs.frac_q7.Goals as goal
 
-pub overflow_cast-w : goal.overflow_cast-w
-overflow_cast-w c = record { fits = omega (arith, leading_le 32 c.bits32-b.result) }
-
-pub overflow_shl-w : goal.overflow_shl-w
-overflow_shl-w c = omega (arith, leading_le 32 c.bits32-b.result)
-
 pub returns : goal.returns
 unfolding frac_q7 clz32
 returns c =

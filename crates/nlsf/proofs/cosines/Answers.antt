@@ -1,5 +1,4 @@
 use mathlib.Core.Path.{refl}
-use native.Mathlib.Nat.{le_antisymm}
 use native.Mathlib.Numerals.{add-one}
 use borrow.Author.Rules.{rules}
 use lib.IntN.{pos}
@@ -45,6 +44,3 @@ loop-k-preserved c =
         get_or-take d s.nlsf.now c.loop-k.k (pos 0) h,
       ),
     )
-
-pub returns : goal.returns
-returns c = rw (c.loop-k.invariant.1, le_antisymm c.loop-k.auto.k-end c.loop-k-test.false, c.size.ensures, length-take-le (size c.args.order) c.args.nlsf.now c.requires.0) refl

@@ -5,14 +5,8 @@ use lib.IntN.{pos}
 use mir.Syntax.{w32}
 use Rattle.word.proofs.Words.{kept, got}
 use Rattle.nlsf.specs.Fit.{fit_chirp}
-use Rattle.nlsf.proofs.Chirps.{den_le, quotient_le, chirp_kept}
+use Rattle.nlsf.proofs.Chirps.{quotient_le, chirp_kept}
 use Rattle.nlsf.proofs.fit_chirp.Goals as goal
-
-pub overflow_mul-den : goal.overflow_mul-den
-overflow_mul-den c = omega (arith, den_le c.args.m c.args.place c.requires.1 c.requires.2)
-
-pub overflow_cast-num : goal.overflow_cast-num
-overflow_cast-num c = omega (arith, quotient_le c.args.m c.args.place c.requires.0 c.requires.1)
 
 pub returns : goal.returns
 unfolding fit_chirp

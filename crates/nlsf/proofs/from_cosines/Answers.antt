@@ -9,12 +9,6 @@ use Rattle.nlsf.specs.Lines.{poly, coefficients_of}
 use Rattle.nlsf.proofs.Polynomials.{length-poly, coefficients-front, order_even}
 use Rattle.nlsf.proofs.from_cosines.Goals as goal
 
-pub silk_nlsf2a_find_poly-p-requires : goal.silk_nlsf2a_find_poly-p-requires
-silk_nlsf2a_find_poly-p-requires c = rw c.size-n.ensures (omega (arith, order_even (size_two c.args.order)))
-
-pub silk_nlsf2a_find_poly-q-requires : goal.silk_nlsf2a_find_poly-q-requires
-silk_nlsf2a_find_poly-q-requires c = rw c.size-n.ensures (omega (arith, order_even (size_two c.args.order)))
-
 pub returns : goal.returns
 unfolding coefficients_of
 returns c =

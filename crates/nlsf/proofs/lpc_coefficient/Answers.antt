@@ -15,7 +15,7 @@ returns-then-i-d c =
       got w32 c.odd_term.type_inv c.odd_term.ensures,
       got w32 c.even_term.type_inv c.even_term.ensures,
       wrap_neg w32 (odd_term s.q.now s.i +ℤ even_term s.p.now s.i),
-      lt-ltb _ _ c.if-i-d.true,
+      lt-ltb _ _ (rw c.size-d.ensures at c.if-i-d.true),
     )
 
 pub returns-else-i-d : goal.returns-else-i-d
@@ -25,5 +25,6 @@ returns-else-i-d c =
       got w32 c.sub32.type_inv c.sub32.ensures,
       got w32 c.odd_term-else-i-d.type_inv c.odd_term-else-i-d.ensures,
       got w32 c.even_term-else-i-d.type_inv c.even_term-else-i-d.ensures,
-      le-ltb _ _ c.if-i-d.false,
+      c.size-d.ensures,
+      le-ltb _ _ (rw c.size-d.ensures at c.if-i-d.false),
     )

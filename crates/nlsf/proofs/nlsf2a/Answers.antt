@@ -1,5 +1,5 @@
 use Prim.Native.Nat.{◌≤◌}
-use mathlib.Core.Path.{◌≡◌, sym, ap, ◌∙◌}
+use mathlib.Core.Path.{◌≡◌, ap, ◌∙◌}
 use native.Mathlib.Omega.{arith}
 use borrow.Author.Rules.{rules}
 use lib.IntN.{pos}
@@ -7,7 +7,7 @@ use lib.ListN.{length, take, drop, replicate}
 use lib.Seq.{length-take-le, take_at}
 use mir.Facts.{to_z-of_z}
 use Rattle.shape.specs.Order.{size}
-use Rattle.shape.proofs.Orders.{size_low, size_high}
+use Rattle.shape.proofs.Orders.{size_high}
 use Rattle.nlsf.specs.Lines.{lpc_coefficients}
 use Rattle.nlsf.specs.Filter.{stabilised, nlsf2a}
 use Rattle.nlsf.specs.Fit.{Fit, lpc_fit}
@@ -22,20 +22,6 @@ room c =
     let n : length c.from_cosines-a.result ≡ 16 = search rules in
     let h : d ≤ length c.from_cosines-a.result = omega (arith, size_high c.args.order) in
     (h, length-take-le d c.from_cosines-a.result h)
-
-pub slice_bounds-coefs-end : goal.slice_bounds-coefs-end
-slice_bounds-coefs-end c = rw c.size.ensures (sym (room (goal.at.slice_bounds-coefs-end c).After-from_cosines-a).1)
-
-pub silk_lpc_fit-requires : goal.silk_lpc_fit-requires
-silk_lpc_fit-requires c =
-    let o = c.args.order in
-    rw c.size.ensures (omega (arith, (room (goal.at.silk_lpc_fit-requires c).After-from_cosines-a).1, size_low o, size_high o))
-
-pub stabilise-requires : goal.stabilise-requires
-stabilise-requires c =
-    let o = c.args.order in
-    let n : length (take c.size.result c.from_cosines-a.result) ≡ size o = rw c.size.ensures (room (goal.at.stabilise-requires c).After-from_cosines-a).1 in
-    omega (arith, n, c.silk_lpc_fit.auto.a, c.silk_lpc_fit.auto.a_q12, c.requires.0, size_low o, size_high o)
 
 pub returns : goal.returns
 unfolding nlsf2a lpc_coefficients

@@ -1,4 +1,3 @@
-use mathlib.Core.Path.{refl}
 use native.Mathlib.Nat.{le_antisymm}
 use native.Mathlib.Numerals.{add-one}
 use native.Mathlib.Omega.{arith}
@@ -12,9 +11,6 @@ use Rattle.nlsf.specs.Fit.{rounded}
 use Rattle.nlsf.proofs.Parts.{filled}
 use Rattle.nlsf.proofs.rounded.Invariants.{round}
 use Rattle.nlsf.proofs.rounded.Goals as goal
-
-pub loop-k-init : goal.loop-k-init
-loop-k-init c = (refl, refl)
 
 pub loop-k-preserved : goal.loop-k-preserved
 loop-k-preserved c =

@@ -13,12 +13,10 @@ use Rattle.word.specs.Int.{sat16}
 use Rattle.word.proofs.Words.{kept, got}
 use Rattle.stability.proofs.Sums.{take_more}
 use Rattle.nlsf.specs.Fit.{in_q12, saturated}
-use Rattle.nlsf.proofs.Parts.{rest_at, filled, scaled-kept}
+use Rattle.word.proofs.Lists.{rest_at}
+use Rattle.nlsf.proofs.Parts.{filled, scaled-kept}
 use Rattle.nlsf.proofs.saturated.Invariants.{back}
 use Rattle.nlsf.proofs.saturated.Goals as goal
-
-pub loop-x-init : goal.loop-x-init
-loop-x-init c = (refl, refl)
 
 pub loop-x-preserved : goal.loop-x-preserved
 loop-x-preserved c =

@@ -11,10 +11,9 @@ use mir.Syntax.{w32}
 use mir.Val.{to_z, of_z}
 use mir.Facts.{to_z-of_z}
 use Rattle.word.specs.Tabulate.{tabulate}
-use Rattle.word.proofs.Lists.{tabulate-more, length-tabulate}
+use Rattle.word.proofs.Lists.{tabulate-more, length-tabulate, rest_at}
 use Rattle.word.proofs.Words.{kept, got}
 use Rattle.nlsf.specs.Expand.{factor32, bwexpander32}
-use Rattle.nlsf.proofs.Parts.{rest_at}
 use Rattle.nlsf.proofs.silk_bwexpander_32.Invariants.{expanded}
 use Rattle.nlsf.proofs.silk_bwexpander_32.Goals as goal
 

@@ -1,15 +1,19 @@
+use Prim.Native.Nat.{◌<◌, ◌≤◌}
 use mathlib.Core.Path.{◌≡◌, sym, ◌∙◌}
 use mathlib.Core.Bool.{Bool}
+use mathlib.Core.List.{List}
 use native.Mathlib.Nat.{le_antisymm}
+use native.Mathlib.Omega.{arith}
 use borrow.Author.Rules.{rules}
-use lib.IntN.{pos}
+use lib.IntN.{ℤ, pos, nat_abs}
 use lib.ListN.{length}
 use lib.Signed.{lt_z}
 use mir.Syntax.{w32}
 use mir.Val.{to_z, of_z}
+use Rattle.word.specs.Int.{wrap32}
 use Rattle.word.proofs.Words.{kept, got}
 use Rattle.nlsf.specs.Fit.{maxabs, in_q12}
-use Rattle.nlsf.proofs.Rounds.{length-bwexpander32, maxabs-place, fit-stops, fit-goes_on, fit_ends, rounded-saturated}
+use Rattle.nlsf.proofs.Rounds.{length-bwexpander32, largest_place, fit-stops, fit-goes_on, fit_ends, rounded-saturated}
 use Rattle.nlsf.proofs.silk_lpc_fit.Goals.{After-in_q12-m}
 use Rattle.nlsf.proofs.silk_lpc_fit.Goals as goal
 
@@ -26,10 +30,14 @@ returns-else-m-gt32767 c =
     let t = c.loop-test.true in
     rw (c.rounded.ensures, c.loop.invariant.3) (sym (fit-stops c.loop.a c.loop.counter t (within (goal.at.returns-else-m-gt32767 c).After-in_q12-m c.if-m-gt32767.false)))
 
+-- its place
+fits : (a : List ℤ) → length a ≤ 16 → (maxabs a (length a)).place < 16
+fits a h = omega (arith, largest_place (λ x. wrap32 (pos (nat_abs x))) a (length a))
+
 pub chirp_of-requires : goal.chirp_of-requires
 chirp_of-requires c =
     let a = c.loop.a in
-    (c.if-m-gt32767.true, rw c.maxabs-p.ensures (maxabs-place a (length a) (search rules)))
+    (c.if-m-gt32767.true, rw c.maxabs-p.ensures (fits a (search rules)))
 
 pub loop-preserved : goal.loop-preserved
 loop-preserved c =

@@ -1,7 +1,6 @@
-use Prim.Native.Nat.{◌+◌, ◌-◌, ◌*◌, ◌<◌, ◌≤◌}
-use mathlib.Core.Path.{◌≡◌, sym, ◌∙◌}
+use Prim.Native.Nat.{◌+◌, ◌*◌, ◌<◌, ◌≤◌}
+use mathlib.Core.Path.{◌≡◌, ◌∙◌}
 use mathlib.Core.List.{List}
-use native.Mathlib.Nat.{le_antisymm}
 use native.Mathlib.Omega.{arith}
 use borrow.Author.Rules.{rules}
 use lib.IntN.{ℤ, pos}
@@ -36,15 +35,6 @@ loop-k-init c =
       rw (got w32 c.neg32.type_inv c.neg32.ensures, kept w32 (get_or s.c.now s.s (pos 0)) c.neg32-arg-1.given),
     )
 
-pub slice_bounds-p-end : goal.slice_bounds-p-end
-slice_bounds-p-end c = (room c).0
-
-pub slice_bounds-times_factor-end : goal.slice_bounds-times_factor-end
-slice_bounds-times_factor-end c = sym (room (goal.at.slice_bounds-times_factor-end c).After-p-1).1
-
-pub times_factor-requires : goal.times_factor-requires
-times_factor-requires c = omega (arith, room (goal.at.times_factor-requires c).After-p-1)
-
 pub loop-k-preserved : goal.loop-k-preserved
 loop-k-preserved c =
     let s = c.args in
@@ -64,10 +54,3 @@ loop-k-preserved c =
         get_or-append q (drop (k + 2) z) (pos 0) k (rw (length-poly s.c.now s.s k) (omega arith)),
       ) (poly-turn s.c.now z s.s k n),
     )
-
-pub returns : goal.returns
-returns c =
-    let i = c.loop-k.invariant in
-    let d = c.args.dd in
-    let b : d - 1 + 2 ≡ d + 1 = omega arith in
-    rw (i.3, le_antisymm i.0 c.loop-k-test.false, i.1, b)

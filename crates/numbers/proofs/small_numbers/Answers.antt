@@ -1,26 +1,18 @@
-use mathlib.Core.Path.{◌≡◌, refl, ◌∙◌}
-use mathlib.Core.Bool.{Bool, true, false, cond}
+use mathlib.Core.Path.{◌∙◌}
 use mathlib.Core.List.{[], ◌∷◌}
-use lib.IntN.{pos}
 use borrow.Author.Rules.{rules}
-use mir.Val.{bool_byte}
 use mir.Syntax.{w8, w32}
 use mir.Facts.{to_z-of_z}
-use Rattle.word.proofs.Words.{got, kept}
+use Rattle.word.proofs.Words.{got, kept, bool_number}
 use Rattle.numbers.specs.Numbers.{small_numbers}
 use Rattle.numbers.proofs.small_numbers.Goals as goal
-
--- 1 received, 0 lost
-kind : (b : Bool) → pos (bool_byte b) ≡ cond b (pos 1) (pos 0)
-kind true = refl
-kind false = refl
 
 pub returns : goal.returns
 unfolding small_numbers
 returns c =
     let q = c.args.q in
     let m = c.from-2 in
-    let e0 = got w32 c.from.type_inv c.from.ensures ∙ kind c.args.received in
+    let e0 = got w32 c.from.type_inv c.from.ensures ∙ bool_number c.args.received in
     let e1 = to_z-of_z c.ranges.rate in
     let e2 = to_z-of_z c.ranges.subframes in
     let e3 = got w32 c.from-3.type_inv c.from-3.ensures ∙ got w8 m.type_inv m.ensures in

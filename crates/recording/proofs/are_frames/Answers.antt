@@ -1,21 +1,21 @@
-use Rattle.std.proofs.Common.{refl, ◌∙◌}
-use Rattle.std.proofs.lemmas.List.{reverse-reverse}
-use Rattle.std.proofs.lemmas.Iterator.Adapters.{YieldsList-from_rev_slice}
-use Rattle.std.proofs.lemmas.Iterator.Consumers.{YieldsList-end}
-use Rattle.recording.specs.Frames.{are_frames}
-use Rattle.recording.proofs.Back.{back_more}
+use Rattle.std.proofs.Common.{◌+◌, ◌*◌, ◌≤◌, length, ◌∙◌, rules}
+use Rattle.std.proofs.lemmas.List.{get_or_default}
+use Rattle.std.proofs.lemmas.Iterator.{YieldsList-from_slice}
+use Rattle.std.proofs.lemmas.Iterator.Adapters.{serves_from_places}
+use Rattle.std.proofs.lemmas.Iterator.Search.{all_from_yields_List}
+use Rattle.recording.specs.Frames.{is_frame}
+use Rattle.recording.proofs.Back.{frames_each}
 use Rattle.recording.proofs.are_frames.Goals as goal
 
-pub loop-i-init : goal.loop-i-init
-unfolding are_frames
-loop-i-init c = refl
-
-pub loop-i-preserved : goal.loop-i-preserved
-unfolding are_frames
-loop-i-preserved c =
-    rw (back_more c.loop-i.yielded c.in-Some.i, c.is_frame-ok.ensures, c.loop-i.invariant)
+pub all-requires-clause-callable : goal.all-requires-clause-callable
+all-requires-clause-callable c =
+    let r = c.args.frames.now.records.now in
+    let b = c.args.frames.now.bytes.now in
+    serves_from_places (YieldsList-from_slice r cc) (λ x q k. search rules)
+    (λ x k h e. let z : 1024 * x.now + 1024 ≤ length b = rw (e ∙ get_or_default r k x.now 0 h) (c.args.frames.now.inside k) in search rules)
 
 pub returns : goal.returns
 returns c =
-    let e = YieldsList-end (YieldsList-from_rev_slice c.args.frames.now.records.now cc) c.loop-i.yielded _ c.loop-i.yielded_by _ _ c.in-None.is c.next.ensures.steps in
-    c.loop-i.invariant ∙ rw (e.0, reverse-reverse c.args.frames.now.records.now)
+    let b = c.args.frames.now.bytes.now in
+    let r = c.args.frames.now.records.now in
+    all_from_yields_List (is_frame b) _ _ c.all.result c.all.ensures.ran (YieldsList-from_slice r cc) (λ x t q k. search rules) ∙ frames_each b r

@@ -1,32 +1,21 @@
-use mathlib.Core.Path.{refl}
-use mathlib.Core.List.{append-nil}
-use native.Mathlib.Nat.{le_antisymm}
-use native.Mathlib.Numerals.{add-one}
-use native.Mathlib.Omega.{arith}
+use mathlib.Core.Path.{◌≡◌, sym, ◌∙◌}
+use borrow.Author.Rules.{rules}
 use lib.IntN.{pos}
-use lib.ListN.{get_or, replicate}
-use mir.Syntax.{w16, w32}
+use lib.ListN.{get_or}
+use lib.Seq.{ext_get_or}
 use Rattle.word.specs.Int.{wrap16}
 use Rattle.word.specs.Tabulate.{tabulate}
-use Rattle.word.proofs.Lists.{tabulate-more}
-use Rattle.word.proofs.Words.{kept}
+use Rattle.word.proofs.Lists.{length-tabulate, get_or-tabulate}
 use Rattle.replay.specs.Put.{shorts}
-use borrow.Author.Rules.{rules}
 use Rattle.replay.proofs.shorts.Goals as goal
-
-pub loop-i-init : goal.loop-i-init
-unfolding tabulate
-loop-i-init c = (search rules, search rules, refl)
-
-pub loop-i-preserved : goal.loop-i-preserved
-loop-i-preserved c =
-    let row = c.args.row in (
-      search rules,
-      search rules,
-      rw (kept w16 _ c.low16.type_inv, c.low16.ensures, kept w32 _ c.low16-arg-1.given, c.loop-i.invariant.2, add-one)
-          (tabulate-more (replicate 64 (pos 0)) (λ k. wrap16 (get_or row k (pos 0))) c.loop-i.i (omega arith)),
-    )
 
 pub returns : goal.returns
 unfolding shorts
-returns c = rw (c.loop-i.invariant.2, le_antisymm c.loop-i.invariant.0 c.loop-i-test.false, append-nil _)
+returns c =
+    let m = c.map.ensures.items in
+    ext_get_or (pos 0) c.map.result (tabulate 64 (λ k. wrap16 (get_or c.args.row k (pos 0)))) (m.long ∙ sym (length-tabulate 64 (λ k. wrap16 (get_or c.args.row k (pos 0)))))
+    (λ i l.
+    let r = m.at i (pos 0) (pos 0) (rw m.long at l) in
+    let h = r.2 in
+    let e : get_or c.map.result i (pos 0) ≡ wrap16 (get_or c.args.row i (pos 0)) = search rules in
+    e ∙ sym (get_or-tabulate 64 (λ k. wrap16 (get_or c.args.row k (pos 0))) i (rw m.long at l)))

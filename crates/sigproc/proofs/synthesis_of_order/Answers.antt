@@ -1,4 +1,4 @@
-use Rattle.std.proofs.Common.{◌≡◌, suc, ◌+◌, ◌-◌, get_or, pos, sym, refl, add-one, arith, take-append-drop, w32, rules}
+use Rattle.std.proofs.Common.{◌≡◌, suc, ◌+◌, get_or, pos, sym, refl, add-one, arith, take-append-drop, w32, rules}
 use Rattle.word.proofs.Words.{kept}
 use Rattle.sigproc.specs.Synthesis.{synthesis}
 use Rattle.sigproc.proofs.Coefficients.{prediction_first}

@@ -1,17 +1,40 @@
-use mathlib.Core.Path.{sym, ap, ◌∙◌}
+use mathlib.Core.Path.{refl, sym, ap, ◌∙◌}
+use lib.ListN.{length}
+use Rattle.refusal.proofs.Clear.{at_err}
+use Rattle.decode_frame.specs.Answer.{frame_refusal}
+use Rattle.decode_frame.proofs.Answers.{refused-answer}
 use Rattle.layout.specs.Frame.{frame_in}
-use Rattle.slices.specs.Slices.{lent}
-use Rattle.slices.specs.Whole.{answered}
+use Rattle.slices.specs.Slices.{lent, state_of}
+use Rattle.slices.specs.Whole.{whole_call, played_on, refusal_in, answered}
+use Rattle.slices.proofs.Ends.{refused, is_taken}
 use Rattle.slices.proofs.play_frame.Goals as goal
 
-pub returns-in-Received-clause-answer : goal.returns-in-Received-clause-answer
-returns-in-Received-clause-answer c =
+pub returns-in_err-frame_refusal-clause-answer : goal.returns-in_err-frame_refusal-clause-answer
+unfolding answered refusal_in frame_refusal
+returns-in_err-frame_refusal-clause-answer c =
     let a = c.args in
-    let e = sym c.in-Received.is ∙ c.frame.ensures ∙ ap frame_in c.numbers.ensures in
-    c.received.ensures.answer ∙ λ i. answered (e i) (lent a.state.now a.frame.now a.pulses.now a.output.now)
+    let b = lent a.state.now a.frame.now a.pulses.now a.output.now in
+    let s = c.numbers.ensures in
+    let n = c.numbers-numbers.ensures in
+    let d = c.coefs.ensures in
+    let h = c.in_err-frame_refusal.ensures ∙ λ i. refusal_in (s.0 i) (s.1 i) (n i) (d i) (length a.pulses.now) (length a.output.now) in
+    let f = frame_in b.frame in
+    refused (played_on f b) b (refused-answer (state_of b) (whole_call f b) _ h refl).0 (at_err _ _ c.from_residual.ensures.1) refl
 
-pub returns-in-Lost-clause-answer : goal.returns-in-Lost-clause-answer
-returns-in-Lost-clause-answer c =
+pub received-requires : goal.received-requires
+received-requires c =
     let a = c.args in
-    let e = sym c.in-Lost.is ∙ c.frame.ensures ∙ ap frame_in c.numbers.ensures in
-    c.lost.ensures.answer ∙ λ i. answered (e i) (lent a.state.now a.frame.now a.pulses.now a.output.now)
+    let s = c.numbers.ensures in
+    let n = c.numbers-numbers.ensures in
+    let d = c.coefs.ensures in
+    is_taken (lent a.state.now a.frame.now a.pulses.now a.output.now) (sym c.in-Received.is ∙ c.frame.ensures ∙ ap frame_in n)
+    (c.in_ok-frame_refusal.ensures ∙ λ i. refusal_in (s.0 i) (s.1 i) (n i) (d i) (length a.pulses.now) (length a.output.now))
+
+pub lost-requires : goal.lost-requires
+lost-requires c =
+    let a = c.args in
+    let s = c.numbers.ensures in
+    let n = c.numbers-numbers.ensures in
+    let d = c.coefs.ensures in
+    is_taken (lent a.state.now a.frame.now a.pulses.now a.output.now) (sym c.in-Lost.is ∙ c.frame.ensures ∙ ap frame_in n)
+    (c.in_ok-frame_refusal.ensures ∙ λ i. refusal_in (s.0 i) (s.1 i) (n i) (d i) (length a.pulses.now) (length a.output.now))

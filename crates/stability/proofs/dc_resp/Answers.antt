@@ -1,45 +1,28 @@
-use Prim.Native.Nat.{suc, ◌+◌, ◌*◌, ◌≤◌}
+use Prim.Native.Nat.{◌<◌}
 use mathlib.Core.Path.{◌≡◌, refl, ◌∙◌}
-use native.Mathlib.Nat.{le_antisymm}
-use native.Mathlib.Numerals.{add-one}
+use mathlib.Core.List.{map-id}
 use native.Mathlib.Omega.{arith}
 use borrow.Author.Rules.{rules}
-use lib.IntN.{pos, nat_abs, ◌+ℤ◌}
-use lib.ListN.{get_or}
+use lib.IntN.{pos, ◌+ℤ◌}
+use lib.Signed.{mag}
 use mir.Syntax.{w16, w32}
-use mir.Val.{to_z, of_z}
-use mir.Facts.{to_z-of_z}
-use Rattle.word.proofs.Sizes.{abs-fits}
+use Rattle.std.proofs.lemmas.Iterator.{YieldsList-from_slice, YieldsList-from_map}
+use Rattle.std.proofs.lemmas.Iterator.Adapters.{total_from_yields_List, at_most_from_yields_List}
+use Rattle.word.proofs.Sizes.{fits-abs}
 use Rattle.word.proofs.Words.{kept}
 use Rattle.stability.specs.Stability.{total}
-use Rattle.stability.proofs.Sums.{total-more}
-use Rattle.stability.proofs.dc_resp.Goals.{After-from-sum}
+use Rattle.stability.proofs.Sums.{fold_by_place, sum_fits}
 use Rattle.stability.proofs.dc_resp.Goals as goal
 
--- the line that a turn adds
-line : (c : After-from-sum) → c.from-sum.result ≡ get_or c.args.c.a_q12.now c.loop-x.x-index (pos 0)
-line c = c.from-sum.ensures ∙ kept w16 _ c.from-arg-1.given
-
--- the sum after a turn
-more : (c : After-from-sum) → nat_abs (total c.args.c.a_q12.now (suc c.loop-x.x-index)) ≤ 32768 * suc c.loop-x.x-index
-more c = total-more c.args.c.a_q12.now c.loop-x.x-index (record { sfits = c.from-arg-1.given }) c.loop-x.invariant.0
-
-sums : (c : After-from-sum) → to_z w32 c.loop-x.sum-bits +ℤ to_z w32 (of_z w32 c.from-sum.result) ≡ total c.args.c.a_q12.now (suc c.loop-x.x-index)
-unfolding total
-sums c = rw (kept w32 c.from-sum.result c.from-sum.type_inv, line c, c.loop-x.invariant.1) refl
-
-pub loop-x-init : goal.loop-x-init
-unfolding total
-loop-x-init c = (search rules, refl)
-
-pub overflow_add-sum : goal.overflow_add-sum
-overflow_add-sum c = let m = more c in rw (sums c) (abs-fits (total c.args.c.a_q12.now (suc c.loop-x.x-index)) (omega arith))
-
-pub loop-x-preserved : goal.loop-x-preserved
-loop-x-preserved c =
-    let m = more c in
-    let k : c.loop-x.x-index + 1 ≡ suc c.loop-x.x-index = add-one c.loop-x.x-index in
-    rw k (m, rw (sums c) (to_z-of_z {w = w32} (abs-fits (total c.args.c.a_q12.now (suc c.loop-x.x-index)) (omega arith))))
+pub sum-requires-clause-fits : goal.sum-requires-clause-fits
+sum-requires-clause-fits c =
+    let a = c.args.c.a_q12.now in
+    sum_fits _ _ 32768 16 (at_most_from_yields_List (YieldsList-from_slice a cc) c.args.c.few) c.map.ensures.closure (omega arith)
+    (λ x r q k. let f : mag x.now < 32768 = search rules in let e : (q ≡ _) × (r ≡ x.now) = search rules in (e.0, rw e.1 (fits-abs {w = w16} x.now (record { sfits = f }))))
 
 pub returns : goal.returns
-returns c = rw (c.loop-x.invariant.1, le_antisymm c.loop-x.auto.x-index-end c.loop-x-test.false) refl
+unfolding total
+returns c =
+    let a = c.args.c.a_q12.now in
+    let e = total_from_yields_List ◌+ℤ◌ (pos 0) c.sum.result c.sum.ensures.ran (YieldsList-from_map _ (λ x. x) (YieldsList-from_slice a cc) c.map.ensures.closure (λ x r q k. search rules)) in
+    kept w32 c.sum.result c.sum.type_inv ∙ rw (e, map-id a) (fold_by_place ◌+ℤ◌ (total a) a (pos 0) (λ n h. refl))

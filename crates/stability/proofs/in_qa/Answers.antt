@@ -1,12 +1,9 @@
-use mathlib.Core.Path.{refl}
-use native.Mathlib.Nat.{le_antisymm}
 use native.Mathlib.Numerals.{add-one}
 use native.Mathlib.Omega.{arith}
 use Prim.Native.Nat.{◌^◌}
 use borrow.Author.Rules.{rules}
 use lib.IntN.{pos, ◌*ℤ◌}
 use lib.ListN.{get_or, replicate}
-use lib.Seq.{take-length}
 use mir.Syntax.{w16, w32}
 use Rattle.word.proofs.Words.{kept}
 use Rattle.stability.proofs.Sums.{take_more, qa_kept}
@@ -21,8 +18,3 @@ loop-k-preserved c =
       rw (kept w32 c.shl32.result c.shl32.type_inv, c.shl32.ensures, kept w32 c.from.result c.from.type_inv, c.from.ensures, kept w16 (get_or a k (pos 0)) g, qa_kept (get_or a k (pos 0)) (record { sfits = g }), c.loop-k.invariant.1, add-one)
           (take_more (λ x. x *ℤ pos (2 ^ 12)) a (replicate 16 (pos 0)) k c.loop-k-test.true (omega arith)),
     )
-
-pub returns : goal.returns
-returns c =
-    let e = le_antisymm c.loop-k.auto.k-end c.loop-k-test.false in
-    rw (c.loop-k.invariant.1, e, take-length c.args.c.a_q12.now) refl

@@ -24,9 +24,6 @@ whether : (c : After-goes_on) → goes_on c.args.edition (next_coefficients c.lo
 unfolding goes_on
 whether c = sym (rw (c.goes_on.ensures, to_z-of_z c.ranges.edition, c.next_coefficients-fits.ensures.0))
 
-pub loop-k-init : goal.loop-k-init
-loop-k-init c = (search rules, search rules, refl)
-
 pub returns-in_err-gain : goal.returns-in_err-gain
 returns-in_err-gain c =
     let l = c.loop-k in

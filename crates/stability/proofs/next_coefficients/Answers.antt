@@ -7,9 +7,6 @@ use Rattle.word.proofs.Words.{kept, got}
 use Rattle.stability.specs.Stability.{reflection, next_coefficients}
 use Rattle.stability.proofs.next_coefficients.Goals as goal
 
-pub rc_mult2-requires : goal.rc_mult2-requires
-rc_mult2-requires c = got w32 c.bit_length-q.type_inv c.bit_length-q.ensures
-
 pub returns : goal.returns
 unfolding next_coefficients
 returns c =

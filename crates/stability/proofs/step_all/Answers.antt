@@ -6,14 +6,14 @@ use native.Mathlib.Numerals.{add-one}
 use native.Mathlib.Omega.{arith}
 use borrow.Author.Rules.{rules}
 use lib.IntN.{ℤ, pos}
-use lib.ListN.{get_or, length-set}
+use lib.ListN.{get_or}
 use mir.Syntax.{w32, w64}
 use mir.Val.{to_z, of_z}
 use mir.Facts.{to_z-of_z}
 use Rattle.word.specs.Int.{wrap32}
 use Rattle.word.proofs.Words.{kept, got}
+use Rattle.word.proofs.Lists.{map-tabulate}
 use Rattle.stability.specs.Stability.{stepped, fits32}
-use Rattle.stability.proofs.Steps.{map-tabulate}
 use Rattle.stability.proofs.Ends.{turned_none, turned_left, turned_right, turned_more, turned_all, every, pair, pairs_all}
 use Rattle.stability.proofs.step_all.Invariants.{down}
 use Rattle.stability.proofs.step_all.Goals as goal
@@ -21,10 +21,6 @@ use Rattle.stability.proofs.step_all.Goals as goal
 pub loop-n-init : goal.loop-n-init
 unfolding every
 loop-n-init c = (search rules, search rules, search rules, refl, turned_none _ c.args.a.now c.args.k)
-
-pub bounds-a-k : goal.bounds-a-k
-bounds-a-k c =
-    rw (length-set c.loop-n.a c.loop-n.n (to_z w32 (of_z w32 c.low32.result))) (omega arith)
 
 pub loop-n-preserved : goal.loop-n-preserved
 unfolding every

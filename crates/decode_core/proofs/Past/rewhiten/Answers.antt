@@ -16,7 +16,7 @@ use Rattle.decode_core.proofs.Past.rewhiten.Goals.{After-weigh}
 use Rattle.decode_core.proofs.Past.rewhiten.Goals as goal
 
 changed : (c : After-weigh) → let p = c.self.inside in let from = p.idx - c.args.lag - 2 in
-    put_mid from (p.idx - from) p.q15 c.weigh.new.past ≡ refilled (take p.idx p.q15) (c.args.lag + 2) (λ i. smulwb c.args.inverse (residual c.args.out_buf.now c.args.row.now (size c.args.order) i)) ++ drop p.idx p.q15
+    put_mid from (p.idx - from) p.q15 c.weigh.new.to ≡ refilled (take p.idx p.q15) (c.args.lag + 2) (λ i. smulwb c.args.inverse (residual c.args.out_buf.now c.args.row.now (size c.args.order) i)) ++ drop p.idx p.q15
 changed c =
     let a = c.args in
     let p = c.self.inside in

@@ -1,15 +1,10 @@
-use Rattle.shape.specs.Shape.{rate_of, count_of}
+use Rattle.shape.specs.Shape.{rate_of}
 use Rattle.shape.proofs.Shapes.{shaped, count_le, rate_back, count_back}
 use Rattle.decoder.specs.State.{shape_of}
 use Rattle.decoder.proofs.Bounds.{plc_bounds, plc_held-fits}
 use Rattle.plc.specs.Conceal.{signal, held_after, concealed_by}
 use Rattle.plc.proofs.Ready.{ready_held}
 use Rattle.plc.proofs.conceal.conceal_frame.Goals as goal
-
-pub invariant_of-frame : goal.invariant_of-frame
-invariant_of-frame c =
-    let s = c.args.s.now in
-    record { rate = rw (rate_back s.fs_khz c.requires.0) c.requires.0; count = rw (count_back s.nb_subfr c.requires.1) c.requires.1 }
 
 pub ready-h-requires : goal.ready-h-requires
 ready-h-requires c = rw c.count_of.ensures (count_le _)

@@ -10,11 +10,6 @@ use Rattle.plc.specs.Conceal.{noise_gain}
 use Rattle.plc.proofs.Gain.{limited-kept}
 use Rattle.plc.proofs.conceal.noise_gain.Goals as goal
 
-pub returns-in-2 : goal.returns-in-2
-unfolding noise_gain
-returns-in-2 c =
-    rw (is w32 _ 2 (lit< tt) c.ranges.prev_signal_type c.in-2.in-2-own.keys1, got w32 c.by_loss.type_inv c.by_loss.ensures, to_z-of_z c.ranges.loss_cnt)
-
 pub returns-then-loss_cnt-eq0 : goal.returns-then-loss_cnt-eq0
 unfolding noise_gain
 returns-then-loss_cnt-eq0 c =
@@ -29,8 +24,3 @@ returns-then-loss_cnt-eq0 c =
       g.1,
       limited-kept g.0,
     )
-
-pub returns-else-loss_cnt-eq0 : goal.returns-else-loss_cnt-eq0
-unfolding noise_gain
-returns-else-loss_cnt-eq0 c =
-    rw (isnt w32 c.args.prev_signal_type 2 c.in_default.in_default-own.rest.1, isnt w32 c.args.loss_cnt 0 c.if-loss_cnt-eq0.false)

@@ -2,7 +2,7 @@ use native.Mathlib.Omega.{arith}
 use borrow.Author.Rules.{rules}
 use mir.Syntax.{w32}
 use Rattle.word.proofs.Words.{kept}
-use Rattle.shape.specs.Shape.{rate_of, count_of}
+use Rattle.shape.specs.Shape.{rate_of}
 use Rattle.shape.proofs.Shapes.{rate_le, rate_back, count_back, shaped}
 use Rattle.plc.specs.Conceal.{heard, noise_place}
 use Rattle.plc.proofs.Noise.{Held, held}

@@ -92,5 +92,5 @@ returns c =
     let low = l.low in
     let inv = inverse_gain_q30 a.h in
     let g : to_z w32 (of_z w32 c.inverse_gain.result) ≡ inv = got w32 c.inverse_gain.type_inv (c.inverse_gain.ensures ∙ rw (kept w32 (get_or a.h.prev_gain_q16 1 (pos 0)) c.inverse_gain-arg-1.given)) in
-    rw (c.divide.ensures, c.silk_lpc_analysis_filter.ensures, g, l.mem_eq, l.lag_eq, c.size.ensures, c.order-order.ensures)
+    rw (c.weigh.ensures, c.silk_lpc_analysis_filter.ensures, g, l.mem_eq, l.lag_eq, c.size.ensures, c.order-order.ensures)
     (rewhitened-buffer a.buf.now (replicate 320 (pos 0)) a.out_buf.now a.a.now inv d (20 * r) lag fits (omega arith) (simp length-replicate (omega arith)) (omega arith) c.requires.0)

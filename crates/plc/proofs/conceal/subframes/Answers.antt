@@ -1,7 +1,6 @@
 use Prim.Native.Nat.{ℕ, ◌+◌, ◌*◌, ◌≤◌}
 use mathlib.Core.Path.{◌≡◌, ap, ◌∙◌}
 use native.Mathlib.Numerals.{add-one}
-use native.Mathlib.Nat.{le_antisymm}
 use native.Mathlib.Omega.{arith}
 use borrow.Author.Rules.{rules}
 use lib.IntN.{nat_abs}
@@ -71,15 +70,3 @@ loop-j-preserved c =
       search rules,
       rw (e, add-one) (c.subframe-k.ensures ∙ ap (λ (w : Voice). faded_voice r a.fading.harm_gain_q15 a.fading.rand_gain_q15 (excited_times a.noise.now 0 (nat_abs (lag_of w.pitch)) (5 * r) w)) c.loop-j.invariant.2),
     )
-
-pub returns : goal.returns
-returns c =
-    let f = c.args.frame in
-    rw (
-      le_antisymm c.loop-j.invariant.0 c.loop-j-test.false,
-      c.ltp_mem_length-mem.ensures,
-      c.subfr_length-l.ensures,
-      c.count_of-n.ensures,
-      rate_back f.fs_khz f.rate,
-      count_back f.nb_subfr f.count,
-    ) at c.loop-j.invariant.2

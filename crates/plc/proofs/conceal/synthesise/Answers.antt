@@ -3,7 +3,7 @@ use mathlib.Core.Path.{◌≡◌, sym, ap, ◌∙◌}
 use mathlib.Core.List.{List, ◌++◌, map}
 use native.Mathlib.Omega.{arith}
 use borrow.Author.Rules.{rules}
-use borrow.Rule.Slice.PartMut.{put_mid, same_len_mid}
+use borrow.Rule.Slice.PartMut.{put_mid}
 use lib.IntN.{ℤ}
 use lib.ListN.{length, take, drop, length-drop}
 use lib.Seq.{length-take-le}
@@ -71,23 +71,6 @@ synthesis-requires c =
 
 pub overflow_sub-end : goal.overflow_sub-end
 overflow_sub-end c = let l = lengths (goal.at.overflow_sub-end c).After-frame_length-len in omega (arith, l.mem_low)
-
-pub slice_bounds-scale_out-end-2 : goal.slice_bounds-scale_out-end-2
-slice_bounds-scale_out-end-2 c =
-    let l = lengths (goal.at.slice_bounds-scale_out-end-2 c).After-frame_length-len in
-    sym (length-take-le _ _ (omega (arith, l.len_is, c.requires)))
-
-pub scale_out-requires : goal.scale_out-requires
-scale_out-requires c =
-    let a = c.args in
-    let l = lengths (goal.at.scale_out-requires c).After-frame_length-len in
-    let mem = c.ltp_mem_length-mem.result in
-    let len = c.frame_length-len.result in
-    let n : len ≤ length a.xq.now = omega (arith, l.len_is, c.requires) in
-    let z : length a.buf.now ≡ 640 = search rules in
-    let b = same_len_mid (mem - 16) (mem + len - (mem - 16)) c.copy_at.new.dst c.synthesis.new.buf c.synthesis.auto.buf in
-    length-take-le len a.xq.now n
-    ∙ sym (length-take-le (mem + len - mem) _ (simp length-drop (omega (arith, b, c.copy_at.auto.dst, l.both))) ∙ omega arith)
 
 pub returns : goal.returns
 returns c =

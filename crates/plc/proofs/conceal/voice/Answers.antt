@@ -13,7 +13,7 @@ use Rattle.decoder.specs.declared.SilkPLCState.{SilkPLCState}
 use Rattle.shape.proofs.Shapes.{rate_le}
 use Rattle.decoder.proofs.Between.{between-back}
 use Rattle.decoder.proofs.Bounds.{plc_held-bounds, subframes-fit}
-use Rattle.plc.specs.declared.conceal.Carried.{Carried}
+use Rattle.plc.specs.declared.conceal.VoiceState.{VoiceState}
 use Rattle.plc.specs.Conceal.{voice_of, voices, voice_by, harm_gain, noise_gain, noise_scale}
 use Rattle.plc.proofs.Noise.{noise_room}
 use Rattle.plc.proofs.Excite.{voices_part}
@@ -57,7 +57,7 @@ subframes-requires c =
     rw c.starting-k.ensures (between-back _ b.pitch_l_q8)
 
 -- what the subframes start from, but for the history
-abbrev carried : SilkPLCState → ℤ → Carried
+abbrev carried : SilkPLCState → ℤ → VoiceState
 carried h scale =
     record { taps = h.ltp_coef_q14; scale_q14 = scale; pitch_q8 = h.pitch_l_q8; seed = h.rand_seed }
 

@@ -51,26 +51,6 @@ older c =
     rw (c.older_smaller.ensures, o, n)
     (older-is (part c.before.before.before.before.before 0) (part c.before.before.before.before.before 1) (heard_by_bounded _ _) (heard_by_bounded _ _) (omega arith) (omega arith) (omega arith) (omega arith))
 
-pub overflow_mul-n : goal.overflow_mul-n
-overflow_mul-n c = record { fits = omega (arith, early (goal.at.overflow_mul-n c).Start) }
-
-pub heard_energy-old-requires : goal.heard_energy-old-requires
-heard_energy-old-requires c = omega (arith, early (goal.at.heard_energy-old-requires c).Start)
-
-pub overflow_mul-n-2 : goal.overflow_mul-n-2
-overflow_mul-n-2 c = record { fits = omega (arith, late (goal.at.overflow_mul-n-2 c).Start) }
-
-pub heard_energy-new-requires : goal.heard_energy-new-requires
-heard_energy-new-requires c = omega (arith, late (goal.at.heard_energy-new-requires c).Start)
-
-pub before_end-requires : goal.before_end-requires
-before_end-requires c =
-    let k : c.args.m - 1 ≤ 4 = omega (arith, c.requires.5) in
-    omega (arith, mul-le-mul k c.requires.6)
-
-pub before_end-requires-else-older_smaller : goal.before_end-requires-else-older_smaller
-before_end-requires-else-older_smaller c = omega (arith, mul-le-mul c.requires.5 c.requires.6)
-
 pub returns-then-older_smaller : goal.returns-then-older_smaller
 unfolding place_from
 returns-then-older_smaller c = rw (c.before_end.ensures, ← older (goal.at.returns-then-older_smaller c).After-older_smaller, c.if-older_smaller.true)

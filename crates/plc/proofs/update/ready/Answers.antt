@@ -36,14 +36,14 @@ returns-then-rate-h c =
     let f : SFits w32 fs = record { sfits = c.struct_told-1.given.1.1.1.1.1.1.1.1.1.1.0.1 } in
     rw (same_number (rate_of c.args.khz) fs (omega (arith, rate_le c.args.khz)) f (sym (rate (goal.at.returns-then-rate-h c).After-rate_of-rate) ∙ c.if-rate-h.true))
 
-pub overflow_mul-t : goal.overflow_mul-t
-overflow_mul-t c = let l = frame (goal.at.overflow_mul-t c).After-subfr_length in search rules
+pub overflow_mul-result : goal.overflow_mul-result
+overflow_mul-result c = let l = frame (goal.at.overflow_mul-result c).After-subfr_length in search rules
 
-pub overflow_mul-t-2 : goal.overflow_mul-t-2
-overflow_mul-t-2 c = let l = frame (goal.at.overflow_mul-t-2 c).After-subfr_length in search rules
+pub overflow_mul-result-2 : goal.overflow_mul-result-2
+overflow_mul-result-2 c = let l = frame (goal.at.overflow_mul-result-2 c).After-subfr_length in search rules
 
-pub overflow_cast-t : goal.overflow_cast-t
-overflow_cast-t c = let l = frame (goal.at.overflow_cast-t c).After-subfr_length in search rules
+pub overflow_cast-result : goal.overflow_cast-result
+overflow_cast-result c = let l = frame (goal.at.overflow_cast-result c).After-subfr_length in search rules
 
 pub returns : goal.returns
 unfolding plc_ready plc_reset
@@ -58,3 +58,4 @@ returns c =
       rate (goal.at.returns c).After-rate_of-rate,
       sub (goal.at.returns c).After-subfr_length,
     )
+    (search rules)

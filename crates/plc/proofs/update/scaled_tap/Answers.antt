@@ -1,4 +1,3 @@
-use lib.Dec.{lit<}
 use lib.IntN.{pos}
 use mir.Syntax.{w16}
 use mir.Facts.{to_z-of_z}
@@ -7,12 +6,6 @@ use Rattle.word.proofs.Words.{wrap_id, got}
 use Rattle.plc.specs.Update.{scaled_by, scaled_tap}
 use Rattle.plc.proofs.Numbers.{middle-fits}
 use Rattle.plc.proofs.update.scaled_tap.Goals as goal
-
-pub scaled_by-requires : goal.scaled_by-requires
-scaled_by-requires c = lit< tt
-
-pub scaled_by-requires-then-sum-gt-V_PITCH_GAIN_START_MAX_Q14 : goal.scaled_by-requires-then-sum-gt-V_PITCH_GAIN_START_MAX_Q14
-scaled_by-requires-then-sum-gt-V_PITCH_GAIN_START_MAX_Q14 c = lit< tt
 
 pub returns-then-sum-lt-V_PITCH_GAIN_START_MIN_Q14 : goal.returns-then-sum-lt-V_PITCH_GAIN_START_MIN_Q14
 unfolding scaled_tap scaled_by

@@ -1,5 +1,0 @@
-use Rattle.cng.proofs.Filters.{announced}
-use Rattle.cng.proofs.announced.Goals as goal
-
-pub returns : goal.returns
-returns c = announced

@@ -1,5 +1,0 @@
-use Rattle.decoder.proofs.Coming.{same_shape}
-use Rattle.decoder.proofs.same_shape.Goals as goal
-
-pub returns : goal.returns
-returns c = same_shape

@@ -1,9 +1,0 @@
-use mathlib.Core.Path.{◌∙◌}
-use mir.Syntax.{w16}
-use Rattle.le.proofs.Packing.{words_are}
-use Rattle.record.specs.Record.{pulses_in}
-use Rattle.record.proofs.Record.pulses.Goals as goal
-
-pub returns : goal.returns
-unfolding pulses_in
-returns c = c.words_at.ensures ∙ words_are w16 c.args.self.now.bytes.now 177 320
