@@ -10,6 +10,7 @@ ghost use Rattle.announcement.specs.Claims.{RisingExactly, RisingAccepted, AnyOr
 
 use nlsf::lsf_cos;
 use refusal::Refusal;
+use shape::Order;
 use word::add32;
 
 // Entry `place` of the table: twice a cosine (Q12).
@@ -31,6 +32,7 @@ fn apart(below: i32, line: i32) -> bool
     add32(below, 3) <= line
 }
 
+// Not `all`: a turn also needs the line before, and `windows(2)` gives no pair for the first.
 fn is_rising(nlsf: &[i16], d: usize) -> bool
     requires { d ≤ length nlsf.now }
     ensures { result ≡ rising nlsf.now d }
@@ -46,11 +48,11 @@ fn is_rising(nlsf: &[i16], d: usize) -> bool
 }
 
 // Whether the first d lines rise.
-#[tactic(auto, unfolding(crate::specs::Rising::rising_of))]
+#[tactic(auto, using(crate::proofs::Orders::no_order), unfolding(crate::specs::Rising::rising_of))]
 pub fn rising_check(nlsf: &[i16], d: usize) -> Result<bool, Refusal>
     ensures { result ≡ rising_of nlsf.now d }
 {
-    if (d != 10) & (d != 16) | (nlsf.len() < d) {
+    if Order::of(d).is_none() | (nlsf.len() < d) {
         return Err(Refusal::Place);
     }
     Ok(is_rising(nlsf, d))

@@ -10,6 +10,8 @@ use lib.Dec.{eqb, leb}
 use lib.ListN.{length, length-append}
 use Rattle.std.specs.Prelude.{Some, None}
 use Rattle.std.specs.List.{list_any}
+use Rattle.std.proofs.Math.Bool.{or-false}
+use Rattle.std.proofs.lemmas.List.Recursion.{or_push}
 use Rattle.le.proofs.Places.{eqb_swap}
 use Rattle.chain.specs.Chain.{next_of, records_in, is_among, chain_from, chain_of}
 use Rattle.chain.specs.Claims.{Reaches, start, next, Means, ChainMeans, FewFrames}
@@ -21,16 +23,7 @@ held xs (suc m) = held xs m + cond (is_among m xs) 1 0
 
 pub among_snoc : (j k : ℕ) (xs : List ℕ) → is_among j (xs ++ k ∷ []) ≡ (is_among j xs || eqb j k)
 unfolding is_among
-among_snoc j k [] = go (eqb j k)
-  where
-    go : (t : Bool) → (t || false) ≡ (false || t)
-    go true = refl
-    go false = refl
-among_snoc j k (x ∷ xs) = ap (λ (t : Bool). eqb j x || t) (among_snoc j k xs) ∙ go (eqb j x) (is_among j xs) (eqb j k)
-  where
-    go : (s t u : Bool) → (s || (t || u)) ≡ ((s || t) || u)
-    go true t u = refl
-    go false t u = refl
+among_snoc j k xs = or_push (is_among j) (eqb j) refl (λ x ys. refl) xs k
 
 -- a number is found among others
 pub found : (k : ℕ) (xs : List ℕ) → list_any (λ y. eqb y k) xs ≡ is_among k xs
@@ -39,11 +32,7 @@ found k [] = refl
 found k (x ∷ xs) = λ i. eqb_swap x k i || found k xs i
 
 bit_other : (j k : ℕ) (xs : List ℕ) → (j ≡ k → ⊥) → is_among j (xs ++ k ∷ []) ≡ is_among j xs
-bit_other j k xs h = among_snoc j k xs ∙ ap (λ (t : Bool). is_among j xs || t) (ne_eqb j k h) ∙ go (is_among j xs)
-  where
-    go : (t : Bool) → (t || false) ≡ t
-    go true = refl
-    go false = refl
+bit_other j k xs h = among_snoc j k xs ∙ ap (λ (t : Bool). is_among j xs || t) (ne_eqb j k h) ∙ or-false (is_among j xs)
 
 held_low : (k m : ℕ) (xs : List ℕ) → m ≤ k → held (xs ++ k ∷ []) m ≡ held xs m
 unfolding held

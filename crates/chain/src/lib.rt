@@ -8,7 +8,7 @@ ghost use Rattle.chain.specs.Claims.{ChainMeans, FewFrames};
 
 use le::Word;
 
-// The records of a chain's frames, in order. No heap: an array of the most records that there are, and their count.
+// The records of a chain's frames, in order. No heap: an array of the most records that there are, and their count. The kit's ArrayVec is no Copy.
 #[derive(Clone, Copy)]
 pub struct Route {
     pub frames: usize,

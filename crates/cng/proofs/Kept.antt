@@ -81,12 +81,6 @@ comfort_held s gains n frame low b lines g =
     (λ e. silenced-held r (order_of r) _ (either (CngHeldBounds r) (eq_ℤ s.prev_signal_type (pos 0)) (tracked-held p s.exc_q14 s.prev_nlsf_q15 gains h low held lines (g e)) held))
     (λ gain. sounded-held s.settings.edition r (order_of r) n h held)
 
-pub comfort_fits : (s : SilkDecoderState) (gains : List ℤ) (n : ℕ) (frame : List ℤ) (low : ℕ) → CngBounds (rate_of s.fs_khz) s.s_cng
-    → AllBetween 0 32767 s.prev_nlsf_q15 (order_of (rate_of s.fs_khz))
-    → (eq_ℤ s.loss_cnt (pos 0) ≡ true → AllBetween low 1686110208 gains (count_of s.nb_subfr))
-    → cng_fits (rate_of s.fs_khz) (comfort_noise (shape_of s) s gains n frame).state.s_cng ≡ true
-comfort_fits s gains n frame low b lines g = cng_fits_lem _ _ (λ _. comfort_held s gains n frame low b lines g)
-
 -- ---- types
 -- the first n of m numbers replaced by a table
 table-words : {w : Width} (m n : ℕ) (f : ℕ → ℤ) (xs : List ℤ) → n ≤ m → ((i : ℕ) → i < n → SFits w (f i)) → Words w m xs → Words w m (tabulate n f ++ drop n xs)

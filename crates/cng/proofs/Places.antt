@@ -11,7 +11,7 @@ use Rattle.std.specs.List.{copy_within, fold}
 use Rattle.sigproc.specs.Place.{put_at}
 use Rattle.nlsf.specs.Fit.{largest_by}
 use Rattle.nlsf.proofs.Rounds.{largest_place}
-use Rattle.stability.proofs.Sums.{fold_by_place}
+use Rattle.word.proofs.Totals.{fold_by_place}
 use Rattle.cng.specs.Noise.{loudest, next_gain, smoothed_gain, moved_in}
 
 -- the products of a subframe's length

@@ -10,7 +10,7 @@ use lib.Signed.{lt_z}
 use mir.Syntax.{w16, w32}
 use Rattle.word.specs.Int.{floor_div, wrap32}
 use Rattle.word.proofs.Parts.{P, N, add_parts, sub_parts_ℤ, mul-parts, div_parts}
-use Rattle.word.proofs.Sizes.{abs_le, abs-fits}
+use Rattle.word.proofs.Sizes.{abs_le, abs-fits, difference_kept}
 use Rattle.word.proofs.Words.{wrap_id}
 use Rattle.macros.specs.Fixed.{smulwb, smulww}
 use Rattle.decoder.proofs.Between.{either, Between, AllBetween}
@@ -29,11 +29,6 @@ apart (negsuc k) a b M ha hb e = (omega arith, omega arith)
 module _ (a b M : ℕ) (ha : a ≤ M) (hb : b ≤ M) (hM : M < 2 ^ 31) where
   parts : (a + P (pos b -ℤ pos a) ≤ M) × (N (pos b -ℤ pos a) ≤ a)
   parts = apart (pos b -ℤ pos a) a b M ha hb (omega (arith, sub_parts_ℤ (pos b) (pos a)))
-
-  pub difference-kept : wrap32 (pos b -ℤ pos a) ≡ pos b -ℤ pos a
-  difference-kept =
-      let p = parts in
-      wrap_id {w = w32} (abs-fits (pos b -ℤ pos a) (omega (arith, abs_le (pos b -ℤ pos a) M (omega arith) (omega arith))))
 
   pub toward : (c : ℕ) → c < 2 ^ 15 → Between 0 M (pos a +ℤ smulwb (pos b -ℤ pos a) (pos c))
   unfolding smulwb
@@ -72,7 +67,7 @@ next_gain-between held g h k =
     let d : wrap32 (g -ℤ held) ≡ g -ℤ held =
     subst (λ (v : ℤ). wrap32 (g -ℤ v) ≡ g -ℤ v) (sym h.is)
     (subst (λ (v : ℤ). wrap32 (v -ℤ pos (nat_abs held)) ≡ v -ℤ pos (nat_abs held)) (sym k.is)
-    (difference-kept (nat_abs held) (nat_abs g) 1686110208 h.high k.high (omega arith))) in
+    (difference_kept (nat_abs g) (nat_abs held) (omega (arith, k.high)) (omega (arith, h.high)))) in
     let e : wrap32 (held +ℤ smulwb (wrap32 (g -ℤ held)) (pos 4634)) ≡ held +ℤ smulwb (g -ℤ held) (pos 4634) =
     ap (λ (v : ℤ). wrap32 (held +ℤ smulwb v (pos 4634))) d ∙ wrap_id {w = w32} (abs-fits (held +ℤ smulwb (g -ℤ held) (pos 4634)) (omega (arith, m.high))) in
     either (Between 0 1686110208) (lt_z g (smulww (wrap32 (held +ℤ smulwb (wrap32 (g -ℤ held)) (pos 4634))) (pos 46396))) k (subst (Between 0 1686110208) (sym e) m)

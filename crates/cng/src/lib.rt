@@ -2,8 +2,8 @@
 // Inner: every function but silk_cng and announced.
 #![tactic(auto)]
 
-ghost use Rattle.std.specs.Prelude.{◌≡◌, true, false, cond, ◌++◌, ◌+◌, ◌-◌, ◌*◌, ◌^◌, ◌≤◌, ◌<◌, pos, ◌+ℤ◌, length, drop, get_or, replicate};
-ghost use Rattle.word.specs.Int.{floor_div, mod_ℤ, eq_ℤ, sat16};
+ghost use Rattle.std.specs.Prelude.{◌≡◌, true, false, ◌++◌, ◌+◌, ◌-◌, ◌*◌, ◌^◌, ◌≤◌, ◌<◌, pos, ◌+ℤ◌, length, drop, get_or, replicate};
+ghost use Rattle.word.specs.Int.{floor_div, mod_ℤ, sat16};
 ghost use Rattle.word.specs.Tabulate.{tabulate};
 ghost use Rattle.sigproc.specs.Synthesis.{played};
 ghost use Rattle.nlsf.specs.Lines.{negative_line};
@@ -100,7 +100,7 @@ fn smoothed_gain(held: i32, gains: &[i32]) -> i32
     gains.iter().fold(held, |gain, g| next_gain(gain, *g))
 }
 
-// Subframe k, of l samples, in front of the held ones.
+// Subframe k, of l samples, in front of the held ones. Not a FrameShape: tried, and each product and place below then needs an answer, six in all, which these bounds prove alone.
 fn moved_in(held: &mut [i32; 320], exc: &[i32; 320], l: usize, n: usize, k: usize)
     requires { (l ≤ 80) × (n ≤ 4) × (k < n) }
     ensures { held.new ≡ moved_in l n exc.now held.old k }
@@ -241,13 +241,12 @@ pub fn received(
     silenced(h, shape.order());
 }
 
-// Noise added to a lost frame; of a FrameShape the count would not be read, and a type of short frames would be made for a single call.
+// Noise added to a lost frame. Not a FrameShape, though both callers could give one: it would ask that the count is one, which nothing here reads; the 2 below stands for it.
 pub fn lost(h: &mut SilkCNGState, khz: i32, edition: i32, scale: i16, last: i32, frame: &mut [i16])
     requires { (is_rate khz ≡ true) × (cng_fits (rate_of khz) h.old ≡ true) × (length frame.old ≤ 320) }
     ensures { (h.new ≡ sounded edition (order_of (rate_of khz)) (cng_ready (rate_of khz) h.old) (length frame.old))
         × (frame.new ≡ sounding edition (order_of (rate_of khz)) scale last (cng_ready (rate_of khz) h.old) (length frame.old) frame.old) }
 {
-    // The count is not read.
     let shape = FrameShape {
         fs_khz: khz,
         nb_subfr: 2,
@@ -285,18 +284,18 @@ fn comfort_noise(s: SilkDecoderState, gains: &[i32; 4], frame: &mut [i16]) -> Si
             shape,
             s.prev_signal_type,
         );
-        return SilkDecoderState { s_cng, ..s };
+    } else {
+        let plc = s.s_plc;
+        let settings = s.settings;
+        lost(
+            &mut s_cng,
+            s.fs_khz,
+            settings.edition,
+            plc.rand_scale_q14,
+            plc.prev_gain_q16[1],
+            frame,
+        );
     }
-    let plc = s.s_plc;
-    let settings = s.settings;
-    lost(
-        &mut s_cng,
-        s.fs_khz,
-        settings.edition,
-        plc.rand_scale_q14,
-        plc.prev_gain_q16[1],
-        frame,
-    );
     SilkDecoderState { s_cng, ..s }
 }
 

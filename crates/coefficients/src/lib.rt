@@ -7,7 +7,7 @@ ghost use Rattle.std.specs.Prelude.{◌≡◌, ◌<◌, true, cond};
 ghost use Rattle.coefficients.specs.Line.{between, blank, number, fits, stored, ended, minus, digit, fed};
 
 // The numbers so far, and the one that is being read: its minus sign, and its size from the first digit on.
-// The count stays beside the numbers: there is no heap, and the filter's test takes all 16 coefficients, with zeros behind.
+// The count stays beside the numbers: there is no heap, and an entry is copied, which the kit's ArrayVec is not.
 #[derive(Clone, Copy)]
 pub struct Entry {
     pub a: [i16; 17],

@@ -10,6 +10,9 @@ use Rattle.std.proofs.lemmas.List.{drop-map, get_or-map}
 use lib.IntN.{ℤ}
 use lib.ListN.{length, length-map, get_or, take, drop, drop_of_length-le}
 use lib.Seq.{drop-cons, get_or-drop}
+use mir.Syntax.{w32}
+use mir.Val.{SFits, to_z, of_z}
+use mir.Facts.{to_z-of_z}
 use Rattle.shape.specs.Shape.{frame_length}
 use Rattle.decoder.specs.declared.SilkDecoderState.{SilkDecoderState}
 use Rattle.decode_frame.specs.Call.{shape_at}
@@ -22,17 +25,15 @@ use Rattle.heard.specs.declared.Heard.{Heard}
 use Rattle.heard.proofs.Laws.{beyond-append}
 use Rattle.culprit.specs.Search.{losing, was_received, passes, is_culprit, first_from}
 
-pub or_true : (a b : Bool) → a ≡ true → (a || b) ≡ true
-or_true a b e = ap (λ (t : Bool). t || b) e
-
 pub or_false : (a b : Bool) → a ≡ false → (a || b) ≡ b
 or_false a b e = ap (λ (t : Bool). t || b) e
 
 pub and_true : (a b : Bool) → a ≡ true → (a && b) ≡ b
 and_true a b e = ap (λ (t : Bool). t && b) e
 
-pub and_false : (a b : Bool) → a ≡ false → (a && b) ≡ false
-and_false a b e = ap (λ (t : Bool). t && b) e
+-- a number as a call is told it
+abbrev pub told : ℤ → ℤ
+told z = to_z w32 (of_z w32 z)
 
 module _ (l khz nb : ℤ) where
   -- the state that a frame leaves
@@ -41,6 +42,14 @@ module _ (l khz nb : ℤ) where
 
   abbrev pub loud : SilkDecoderState → Recorded → Bool
   loud s x = any_beyond l (take (frame_length (shape_at (call_of khz nb x))) (sound_of s (call_of khz nb x)).samples)
+
+  pub passes_told : SFits w32 l → SFits w32 khz → SFits w32 nb → (s : SilkDecoderState) (xs : List Recorded)
+      → passes (told l) (told khz) (told nb) s xs ≡ passes l khz nb s xs
+  passes_told f g h s xs = λ i. passes (to_z-of_z f i) (to_z-of_z g i) (to_z-of_z h i) s xs
+
+  pub culprit_told : SFits w32 l → SFits w32 khz → SFits w32 nb → (s : SilkDecoderState) (xs : List Recorded)
+      → is_culprit (told l) (told khz) (told nb) s xs ≡ is_culprit l khz nb s xs
+  culprit_told f g h s xs = λ i. is_culprit (to_z-of_z f i) (to_z-of_z g i) (to_z-of_z h i) s xs
 
   pub passes_nil : (s : SilkDecoderState) → passes l khz nb s [] ≡ false
   unfolding passes samples_from any_beyond

@@ -40,6 +40,7 @@ fn lost_passes(s: SilkDecoderState, khz: i32, nb_subfr: i32, behind: &Frames, li
 }
 
 // The same of a record's frame, if it was received; s is the state before it.
+#[tactic(auto, using(word::proofs::Words::kept, crate::proofs::Laws::kind_in))]
 fn is_culprit(
     s: SilkDecoderState,
     khz: i32,

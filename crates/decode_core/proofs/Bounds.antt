@@ -32,22 +32,3 @@ module _ {f : Setting} {c : SilkDecoderControl} {k idx : ℕ} (r : Ready f c k i
       let h : k ≤ 3 = omega (arith, r.place) in
       let m : f.subfr_length * k ≤ 80 * 3 = mul-le-mul s.subframe h in
       omega (arith, r.high, s.history, s.subframe)
-
-  -- the history and two subframes
-  pub two_follow : (j : ℕ) → j ≤ 2 → f.ltp_mem_length + f.subfr_length * j ≤ 480
-  two_follow j h =
-      let s = r.sized in
-      let m : f.subfr_length * j ≤ 80 * 2 = mul-le-mul s.subframe h in
-      omega (arith, s.history, s.subframe)
-
-  pub in_history : rewhitens f k ≡ true → idx ≤ 480
-  in_history e = omega (arith, r.high, two_follow k (whitening f k r.place e))
-
--- the samples that follow the history leave its length as it is
-pub length-buffer_at : (f : Setting) (k : ℕ) (buffer samples : List ℤ) → (k ≡ 2 → f.ltp_mem_length + length samples ≤ length buffer) → length (buffer_at f k buffer samples) ≡ length buffer
-unfolding buffer_at
-length-buffer_at f k buffer samples h = go (eqb k 2) refl
-  where
-    go : (b : Bool) → eqb k 2 ≡ b → length (buffer_at f k buffer samples) ≡ length buffer
-    go true e = rw e (length-put_at buffer f.ltp_mem_length samples (h (eqb-true k 2 e)))
-    go false e = rw e refl

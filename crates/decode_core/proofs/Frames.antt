@@ -1,8 +1,7 @@
 -- A frame, from what its subframes leave.
-use Prim.Native.Nat.{ℕ, zero, suc, ◌+◌, ◌*◌, ◌≤◌}
-use mathlib.Core.Path.{◌≡◌, refl, sym, ap, ◌∙◌}
-use mathlib.Core.List.{List, [], ◌∷◌, ◌++◌}
-use native.Mathlib.Nat.{le_of_suc-le-suc, not-suc-le-zero}
+use Prim.Native.Nat.{ℕ, ◌+◌, ◌*◌, ◌≤◌}
+use mathlib.Core.Path.{◌≡◌, sym, ap, ◌∙◌}
+use mathlib.Core.List.{List, [], ◌++◌}
 use native.Mathlib.Omega.{arith}
 use lib.IntN.{ℤ, pos}
 use lib.ListN.{length, take, drop, replicate, length-append, length-replicate, take-append-drop}
@@ -26,11 +25,6 @@ use Rattle.decode_core.specs.declared.Carried.{Carried}
 -- ---- silence
 pub zeros-words : (z : List ℤ) → z ≡ replicate 640 (pos 0) → Words w32 640 z
 zeros-words z e = record { count = ap length e ∙ length-replicate 640 (pos 0); fits = rw e (replicate-fits 640 (zero_fits w32)) }
-
-pub take-zeros : (n m : ℕ) → n ≤ m → take n (replicate m (pos 0)) ≡ replicate n (pos 0)
-take-zeros zero m h = refl
-take-zeros (suc n) zero h = absurd (not-suc-le-zero h)
-take-zeros (suc n) (suc m) h = ap (λ (r : List ℤ). pos 0 ∷ r) (take-zeros n m (le_of_suc-le-suc h))
 
 -- ---- the memory in front
 module _ (s q memory : List ℤ) (l : ℕ) (e : q ≡ replicate 96 (pos 0)) (k : length s ≡ length q) (h : l ≤ 80) where

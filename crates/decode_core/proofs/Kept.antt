@@ -21,6 +21,7 @@ use Rattle.macros.specs.Fixed.{rand, smulww}
 use Rattle.word.proofs.Fits.{zero_fits, AllFit, append-fits, one-fits, drop-fits, set-fits, replicate-fits, map-fits}
 use Rattle.macros.proofs.Ranges.{smulww-fits}
 use Rattle.sigproc.specs.Place.{put_at}
+use Rattle.std.proofs.Math.Bool.{and-false}
 use Rattle.std.proofs.lemmas.List.{length-map}
 use Rattle.sigproc.proofs.Places.{length-put_at}
 use Rattle.sigproc.proofs.Filter.{memory_length}
@@ -120,10 +121,6 @@ held-fits : (b : Bool) (z : ℤ) → SFits w32 z → SFits w32 (unwrap_or (then_
 held-fits true z h = h
 held-fits false z h = record { sfits = omega arith }
 
-and_false : (a : Bool) → (a && false) ≡ false
-and_false true = refl
-and_false false = refl
-
 more : (n k a x : ℕ) → a ≡ n * k → x ≡ n → a + x ≡ n * suc k
 more n k a x e f = omega (arith, mul-suc n k)
 
@@ -194,7 +191,7 @@ module _ (p : Shape) (n : Shaped p.rate p.subframes) (s : SilkDecoderState) (t :
         length-fits = omega (arith, n.rate_high);
         history-fits = omega (arith, n.rate_high);
         lag_fits = held-fits (transition s (is_voiced q.signal)) s.lag_prev t.lag_prev;
-        kept = λ v. rw (v, and_false (lt_z (pos 0) s.loss_cnt && eq_ℤ s.prev_signal_type (pos 2))) refl;
+        kept = λ v. rw (v, and-false (lt_z (pos 0) s.loss_cnt && eq_ℤ s.prev_signal_type (pos 2))) refl;
       }
 
   start_fits : CoreFits (setting_of p s q) c 0 (start p s c)

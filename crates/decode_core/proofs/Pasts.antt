@@ -10,6 +10,7 @@ use mir.Syntax.{w32}
 use mir.Val.{SFits}
 use Rattle.word.specs.Int.{floor_div, wrap32}
 use Rattle.word.specs.Tabulate.{tabulate}
+use Rattle.word.proofs.Fits.{AllFit}
 use Rattle.word.proofs.Parts.{eq_parts, mul-parts, div_parts}
 use Rattle.word.proofs.Words.{wrap_id}
 use Rattle.word.proofs.Lists.{length_snoc, length-tabulate, grow}
@@ -32,7 +33,7 @@ one x h =
     let e : floor_div y (2 ^ 16) ≡ x = eq_parts (floor_div y (2 ^ 16)) x (omega (arith, div_parts y (2 ^ 16) (omega arith), mul-parts (pos 65536) x)) in
     rw e (wrap_id {w = w32} {z = x} h)
 
-pub unadjusted : (xs : List ℤ) → ((i : ℕ) → SFits w32 (get_or xs i (pos 0))) → map (smulww (pos 65536)) xs ≡ xs
+pub unadjusted : (xs : List ℤ) → AllFit w32 xs → map (smulww (pos 65536)) xs ≡ xs
 unadjusted [] h = refl
 unadjusted (x ∷ xs) h =
     let a = one x (h 0) in

@@ -31,9 +31,6 @@ module _ (f : Setting) (c : SilkDecoderControl) (k : ℕ) (row : List ℤ) (adj 
   predicted ob' mid after lag taps e res w n b m l t a s =
       record { buffer = rw w b; past = rw (w, a, m, n, l, t) refl; residual = rw (w, s, m, n, l, t) refl }
 
-  pub skipped : (e : List ℤ) → long f k ≡ false → LongTerm f c k row adj samples ob ob before before e e
-  skipped e w = record { buffer = rw w refl; past = rw w refl; residual = rw w refl }
-
   -- the places in use after it
   pub longer : (ob' after e res : List ℤ) → (long f k ≡ true → Ready f c k (length before)) → LongTerm f c k row adj samples ob ob' before after e res
       → length after ≡ length before + cond (long f k) f.subfr_length 0

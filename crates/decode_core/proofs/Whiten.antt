@@ -30,9 +30,6 @@ pub mid_is : (a k : ℕ) (xs ys : List ℤ) → put_mid a k xs ys ≡ take a xs 
 mid_is a k xs ys =
     sym (append_assoc (take a xs) ys _) ∙ ap (λ (r : List ℤ). take a xs ++ ys ++ r) (drop-drop k a xs)
 
-pub length_mid : (a k : ℕ) (xs ys : List ℤ) → length ys ≡ k → a + k ≤ length xs → length (put_mid a k xs ys) ≡ length xs
-length_mid a k xs ys e h = ap length (mid_is a k xs ys) ∙ (simp (length-append, length-take, length-drop) (omega arith))
-
 -- the list up to the end of a part that was put back, and from there on
 pub part-front : (a n : ℕ) (xs ys : List ℤ) → length ys ≡ n → a + n ≤ length xs → take (a + n) (put_mid a (a + n - a) xs ys) ≡ take a xs ++ ys
 part-front a n xs ys e h =
@@ -202,10 +199,6 @@ module _ (q taps : List ℤ) (lag idx : ℕ) (e : List ℤ) (v : Words w32 640 q
   unfolding X
   length-X =
       length-ltp_past (take idx q) taps e idx lag (length e) ∙ ap (λ (i : ℕ). i + length e) (length-take-le idx q (omega (arith, v.count)))
-
-  pub synthesised-view : take (idx + length e) (ltp_past (take idx q) taps lag e (length e) ++ drop (idx + length e) q) ≡ ltp_past (take idx q) taps lag e (length e)
-  unfolding X
-  synthesised-view = take_at X (drop (idx + length e) q) (idx + length e) length-X
 
   pub synthesised-words : Words w32 640 (ltp_past (take idx q) taps lag e (length e) ++ drop (idx + length e) q)
   unfolding X

@@ -2,7 +2,7 @@
 // Inner: every function but silk_decode_core and core_excitation.
 #![tactic(auto)]
 
-ghost use Rattle.std.specs.Prelude.{◌≡◌, true, cond, not, ◌&&◌, ◌⊎◌, [], map, ◌++◌, ◌+◌, ◌-◌, ◌*◌, ◌≤◌, ◌<◌, List, ℤ, pos, nat_abs, length, take, drop, get_or, replicate};
+ghost use Rattle.std.specs.Prelude.{◌≡◌, true, cond, not, ◌&&◌, [], map, ◌++◌, ◌+◌, ◌-◌, ◌*◌, ◌≤◌, ◌<◌, List, ℤ, pos, nat_abs, length, take, drop, get_or};
 ghost use Rattle.std.specs.Int.Signed.{lt_z};
 ghost use Rattle.word.specs.Int.{eq_ℤ};
 ghost use Rattle.shape.specs.Shape.{frame_length, count_of};
@@ -27,7 +27,7 @@ use refusal::Refusal;
 use shape::{Order, Rate, count_of};
 use sigproc::{copy_at, ltp_prediction, scale_out, silk_lpc_analysis_filter, synthesis, weigh};
 use std::marker::Model;
-use word::{shl32, wide8};
+use word::shl32;
 
 // What the subframes of a frame share. A transition, a frame that is not voiced after the loss of a voiced one, has that one's lag.
 // voiced and interpolated are two facts of their own, each read as a condition alone.
@@ -105,6 +105,7 @@ fn adjust(xs: &mut [i32], adj: i32)
 }
 
 // The residual from the excitation in res, and the long-term state behind its first idx places.
+// The lag is a place: a type for `3 ≤ lag` would hold one fact for three inner functions, this, the method below and plc's `excite`.
 fn ltp_synthesis(past: &mut [i32], idx: usize, taps: [i16; 5], lag: usize, res: &mut [i32])
     requires { (3 ≤ lag) × (lag + 2 ≤ idx) × (idx + length res.old ≤ length past.old) }
     ensures { (past.new ≡ ltp_past (take idx past.old) taps lag res.old (length res.old) ++ drop (idx + length res.old) past.old)
@@ -121,6 +122,7 @@ fn ltp_synthesis(past: &mut [i32], idx: usize, taps: [i16; 5], lag: usize, res: 
 
 impl Past {
     // The last lag + 2 places anew: the filter reads the history from its start place on and fills the same stretch.
+    // plc's `rewhiten` has these steps too: it needs a room of 320 places, and one for both would clear 480.
     fn rewhiten(
         &mut self,
         lag: usize,
@@ -197,13 +199,16 @@ fn smoothed(c: SilkDecoderControl, lag: i32, k: usize) -> SilkDecoderControl
     requires { k < 4 }
     ensures { result ≡ smoothed c lag k }
 {
-    let mut t = c;
-    t.pitch_l[k] = lag;
-    let mut taps = c.ltp_coef_q14;
+    let mut pitch_l = c.pitch_l;
+    pitch_l[k] = lag;
+    let mut ltp_coef_q14 = c.ltp_coef_q14;
     let middle: [i16; 5] = [0, 0, 4096, 0, 0];
-    copy_at(&mut taps, 5 * k, &middle);
-    t.ltp_coef_q14 = taps;
-    t
+    copy_at(&mut ltp_coef_q14, 5 * k, &middle);
+    SilkDecoderControl {
+        pitch_l,
+        ltp_coef_q14,
+        ..c
+    }
 }
 
 #[tactic(auto, unfolding(crate::specs::Core::control_at))]
@@ -243,9 +248,8 @@ impl Subframe {
         ensures { result ≡ take 5 (drop (5 * self.now.k) self.now.control.ltp_coef_q14) }
     {
         let at = 5 * self.k;
-        let mut five = [0; 5];
-        five.copy_from_slice(&self.control.ltp_coef_q14[at..at + 5]);
-        five
+        let five: &[i16; 5] = self.control.ltp_coef_q14[at..at + 5].try_into().unwrap();
+        *five
     }
 }
 
@@ -395,7 +399,7 @@ fn transition(loss_cnt: i32, prev_signal_type: i32, voiced: bool) -> bool
     loss_cnt > 0 && matches!(prev_signal_type, 2) && !voiced
 }
 
-// 0 to 3 interpolate the lines, 4 does not; row 5 lets no other pass.
+// 0 to 3 interpolate the lines, 4 does not; row 5 lets no other pass. The 4 has an arm of its own, since document 01 names it.
 fn interpolates(nlsf_interp_coef_q2: i8) -> bool
     ensures { result ≡ within (pos 0) (pos 3) nlsf_interp_coef_q2 }
 {
@@ -436,10 +440,11 @@ fn excited(exc: &mut [i32; 320], f: Setting, q: Params, pulses: &[i16])
 {
     let n = f.subfr_length * f.nb_subfr;
     let offset = offset_q14(f.voiced, q.quant_offset_type);
-    excite(&mut exc[..n], pulses, offset, wide8(q.seed));
+    excite(&mut exc[..n], pulses, offset, i32::from(q.seed));
 }
 
 // A received frame that no row refuses, on a state and a description that are lent: its buffers are played where they lie.
+// Rows and pulses stand apart, as in document 01.
 pub fn decode_core(a: &mut Answer, q: Params, rows: [[i16; 16]; 2], pulses: &[i16], xq: &mut [i16])
     requires { Framed (setting_of (shape_of a.old.state) a.old.state q) a.old.control (count_of a.old.state.nb_subfr) × (frame_length (shape_of a.old.state) ≤ length pulses.now) × (frame_length (shape_of a.old.state) ≤ length xq.old) }
     ensures { (a.new.state ≡ (decode_core (shape_of a.old.state) a.old.state q a.old.control rows pulses.now).state) × (a.new.control ≡ (decode_core (shape_of a.old.state) a.old.state q a.old.control rows pulses.now).control)
@@ -484,6 +489,7 @@ pub fn silk_decode_core(
 }
 
 // The excitation that core leaves in the state is 64 times RFC 6716's.
+#[tactic(auto, using(crate::proofs::Standard::core_standard))]
 pub fn core_excitation()
     ensures { CoreStandard }
 {}

@@ -1,5 +1,5 @@
 -- A whole frame that is played keeps a state accepted and in the ranges of its types (demand 3, its first half).
-use Prim.Native.Nat.{ℕ, ◌+◌, ◌-◌, ◌*◌, ◌<◌}
+use Prim.Native.Nat.{ℕ, ◌+◌, ◌-◌}
 use mathlib.Core.Path.{◌≡◌, refl, sym, ap, subst, ◌∙◌}
 use mathlib.Core.Bool.{true, false, not}
 use mathlib.Core.List.{List, []}
@@ -29,7 +29,6 @@ use Rattle.decoder.specs.declared.Params.{Params}
 use Rattle.decoder.proofs.Between.{Between, AllBetween, all_between}
 use Rattle.decoder.proofs.Bounds.{PlcBounds, CngBounds, bounds, history-fits}
 use Rattle.decoder.proofs.Built.{in_range, wider, between_32, typed_type, typed_plc, typed_losses, typed_first}
-use Rattle.judge.specs.Taps.{tap_sum}
 use Rattle.judge.proofs.Bounds.{ParamsFit}
 use Rattle.glue.specs.Glue.{glue_frames}
 use Rattle.decode_core.specs.Core.{decode_core}
@@ -118,20 +117,23 @@ module _ (p : Shape) (q : Shaped p.rate p.subframes) (s : SilkDecoderState) (sha
     unfolding remembered decode_core lined
     history-plc = k.plc
 
-    scale-fits : Between 0 16384 decoded.control.ltp_scale_q14
-    scale-fits = rw (core_scale p q start start-typed f c tc rows pulses tp) fit.scale
-
-    lags-fit : is_voiced f.signal ≡ true → (i : ℕ) → i < p.subframes → Between (2 * p.rate) (18 * p.rate) (get_or decoded.control.pitch_l i (pos 0))
-    lags-fit v i l = rw (same v) (fit.lags v i l)
-
-    taps_fit_lem : is_voiced f.signal ≡ true → (i : ℕ) → i < p.subframes → SFits w16 (tap_sum decoded.control.ltp_coef_q14 i)
-    taps_fit_lem v i l = rw (same v) (fit.taps v i l)
+    decoded-fit : ParamsFit p f decoded.control
+    decoded-fit =
+        record {
+          type = fit.type;
+          offset = fit.offset;
+          interpolation = fit.interpolation;
+          gains = gains-kept;
+          lags = λ v i l. rw (same v) (fit.lags v i l);
+          scale = rw (core_scale p q start start-typed f c tc rows pulses tp) fit.scale;
+          taps = λ v i l. rw (same v) (fit.taps v i l);
+        }
 
     held-bounds : PlcBounds p.rate (plc_updated p (is_voiced f.signal) decoded.control (get_or rows 1 []) (plc_ready p history.s_plc))
-    held-bounds = updated p history.s_plc q history-plc (is_voiced f.signal) decoded.control (get_or rows 1 []) gains-kept scale-fits lags-fit taps_fit_lem
+    held-bounds = updated p history.s_plc q history-plc f decoded.control (get_or rows 1 []) decoded-fit
 
     held-typed : TypedPlc (plc_updated p (is_voiced f.signal) decoded.control (get_or rows 1 []) (plc_ready p history.s_plc))
-    held-typed = updated_typed p history.s_plc q history-plc history-typed.s_plc (is_voiced f.signal) decoded.control (get_or rows 1 []) tr.second gains-kept scale-fits lags-fit taps_fit_lem
+    held-typed = updated_typed p history.s_plc q history-plc history-typed.s_plc f decoded.control (get_or rows 1 []) tr.second decoded-fit
 
     abbrev after : SilkDecoderState
     after = resumed (plc_update p history f.signal decoded.control rows) (signal_number f.signal)

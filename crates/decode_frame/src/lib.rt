@@ -4,7 +4,7 @@
 // Four functions ask for a frame's length: a struct of a shape and the lent samples would be lent on by `&mut`, and each would take it apart again.
 #![tactic(auto)]
 
-ghost use Rattle.std.specs.Prelude.{Ok, ◌≡◌, true, false, cond, [], ◌≤◌, pos, nat_abs, length, replicate};
+ghost use Rattle.std.specs.Prelude.{Ok, ◌≡◌, true, false, cond, [], ◌≤◌, pos, length, replicate};
 ghost use Rattle.word.specs.Int.{eq_ℤ};
 ghost use Rattle.refusal.specs.Refusals.{code_of};
 ghost use Rattle.shape.specs.Shape.{is_rate, is_count, rate_of, count_of, frame_length};
@@ -220,6 +220,7 @@ pub fn silk_decode_frame(
 }
 
 // The excitation that a received frame leaves in the state is 64 times RFC 6716's.
+#[tactic(auto, using(crate::proofs::Standard::frame_standard))]
 pub fn frame_excitation()
     ensures { FrameStandard }
 {}

@@ -10,6 +10,7 @@ use lib.Dec.{leb}
 use lib.IntN.{ℤ, pos, negsuc, nat_abs}
 use lib.ListN.{get_or}
 use lib.Signed.{le_z, lt_z}
+use Rattle.std.proofs.lemmas.Bool.{or_right}
 use Rattle.word.specs.Int.{eq_ℤ}
 use Rattle.word.proofs.Order.{eq_ℤ_true, eq_ℤ_refl}
 use Rattle.word.proofs.Parts.{P, N}
@@ -204,16 +205,11 @@ subframe-bounds r n l e =
           ]
     ]
 
--- of two tests, the second holds
-second : (a b : Bool) → b ≡ true → (a || b) ≡ true
-second true b e = refl
-second false b e = e
-
 pub subframes-fit : (r : ℕ) (n l : ℤ) → SubframeBounds r n l → subframes_held r n l ≡ true
 unfolding subframes_held
 subframes-fit r n l (short e f) = rw (e, f)
-subframes-fit r n l (whole (two k) e f) = second (eq_ℤ n (pos 2) && eq_ℤ l (pos 20)) _ (rw (e, k, f) (eq_ℤ_refl (pos (5 * r))))
-subframes-fit r n l (whole (four k) e f) = second (eq_ℤ n (pos 2) && eq_ℤ l (pos 20)) _ (rw (e, k, f) (eq_ℤ_refl (pos (5 * r))))
+subframes-fit r n l (whole (two k) e f) = or_right (eq_ℤ n (pos 2) && eq_ℤ l (pos 20)) _ (rw (e, k, f) (eq_ℤ_refl (pos (5 * r))))
+subframes-fit r n l (whole (four k) e f) = or_right (eq_ℤ n (pos 2) && eq_ℤ l (pos 20)) _ (rw (e, k, f) (eq_ℤ_refl (pos (5 * r))))
 
 abbrev plc_held_tests : ℕ → SilkPLCState → List Bool
 plc_held_tests r h =

@@ -4,9 +4,10 @@ use mathlib.Core.Path.{◌≡◌, refl, ◌∙◌}
 use mathlib.Core.List.{List, ◌++◌}
 use native.Mathlib.Omega.{arith}
 use lib.IntN.{ℤ, pos}
-use lib.ListN.{get_or, length, drop}
+use lib.ListN.{length, drop}
 use mir.Syntax.{Width, w16, w32}
 use mir.Val.{SFits}
+use Rattle.word.proofs.Fits.{AllFit}
 use Rattle.word.proofs.Sizes.{abs-fits}
 use Rattle.decoder.specs.With.{build, with_gain, with_exc, with_memory, with_out_buf, with_lag, with_lines, with_first, with_noise, with_losses, with_type, with_plc, with_settings, with_sizes}
 use Rattle.decoder.specs.Typed.{Words, TypedCng, TypedPlc, TypedSettings, Typed}
@@ -17,7 +18,7 @@ use Rattle.decoder.specs.declared.SilkDecoderState.{SilkDecoderState}
 use Rattle.decoder.proofs.Between.{Between}
 use Rattle.decoder.proofs.Types.{append-words, drop-words}
 
-pub words : {w : Width} {n : ℕ} {xs : List ℤ} → length xs ≡ n → ((i : ℕ) → SFits w (get_or xs i (pos 0))) → Words w n xs
+pub words : {w : Width} {n : ℕ} {xs : List ℤ} → length xs ≡ n → AllFit w xs → Words w n xs
 words e f = record { count = e; fits = f }
 
 -- the first d places of a list anew, the rest kept

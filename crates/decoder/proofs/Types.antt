@@ -36,10 +36,3 @@ module _ {w : Width} where
 
   pub zeros-words : (n : ℕ) → Words w n (replicate n (pos 0))
   zeros-words n = replicate-words n (zero_fits w)
-
-  -- all of ys stored from a place on
-  pub put-words : {m n : ℕ} (at : ℕ) (xs ys : List ℤ) → at + m ≤ n → Words w n xs → Words w m ys → Words w n (take at xs ++ ys ++ drop (at + length ys) xs)
-  put-words {m} {n} at xs ys l h k =
-      let d = drop (at + length ys) xs in
-      let p = append-words (take at xs ++ ys) d (append-words (take at xs) ys (take_words at xs (omega arith) h) k) (drop-words (at + length ys) xs h) in
-      record { count = let a = k.count in p.count ∙ omega arith; fits = p.fits }

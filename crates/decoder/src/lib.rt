@@ -2,11 +2,11 @@
 // Inner: every function but set_up, set_up_with, played and same_shape.
 #![tactic(auto)]
 
-ghost use Rattle.std.specs.Prelude.{◌≡◌, cond, ◌&&◌, ◌||◌, ◌<◌, ◌≤◌, ℤ, pos, length, map, take};
+ghost use Rattle.std.specs.Prelude.{◌≡◌, cond, ◌<◌, ◌≤◌, ℤ, pos, length, map, take};
 ghost use Rattle.word.specs.Int.{eq_ℤ};
 ghost use Rattle.shape.specs.Shape.{rate_of, shape};
 ghost use Rattle.decoder.specs.Signals.{signal_number, signal_of, is_type, is_voiced};
-ghost use Rattle.decoder.specs.Ranges.{within, all_within, only_if, is_lag, lines_fit, decoder_fits, taps_held, subframes_held, plc_held, plc_fits, cng_fits};
+ghost use Rattle.decoder.specs.Ranges.{within, all_within, is_lag, lines_fit, decoder_fits, taps_held, subframes_held, plc_held, plc_fits, cng_fits};
 ghost use Rattle.decoder.specs.Settings.{is_squelch, settings_fit, default_settings, squelched};
 ghost use Rattle.decoder.specs.With.{with_shape};
 ghost use Rattle.decoder.specs.Reshape.{reshaped};
@@ -31,7 +31,7 @@ pub struct SilkCNGState {
     pub fs_khz: i32,
 }
 
-// Concealment's part of the state.
+// Concealment's part of the state; its flag is a number, as those of the whole state.
 #[derive(Clone, Copy)]
 pub struct SilkPLCState {
     pub pitch_l_q8: i32,
@@ -56,6 +56,7 @@ pub struct Settings {
     pub edition: i32,
 }
 
+// The kind and the flag are numbers, as a program lends them: row 3 refuses one out of range, which an enum or a bool could not hold.
 #[derive(Clone, Copy)]
 pub struct SilkDecoderState {
     pub prev_gain_q16: i32,
@@ -125,7 +126,7 @@ fn chosen(c: bool, a: i32, b: i32) -> i32
     if c { a } else { b }
 }
 
-// A number is a length: `==` in place would cast each caller's length, and each cast asks for a proof that the length fits.
+// z is compared with a length: `==` in place would cast the length in each caller, with a proof that it fits.
 pub fn equals(z: i32, n: usize) -> bool
     requires { n < 2147483648 }
     ensures { result ≡ eq_ℤ z (pos n) }
@@ -133,6 +134,7 @@ pub fn equals(z: i32, n: usize) -> bool
     z == n as i32
 }
 
+// Not `contains` of a range: the definitions cite `within`, and std's answer goes through `partial_cmp`.
 #[tactic(auto, using(crate::proofs::Tests::words), unfolding(crate::specs::Ranges::within))]
 pub fn within(low: i32, high: i32, z: i32) -> bool
     ensures { result ≡ within low high z }
@@ -229,7 +231,7 @@ fn decoder_fits(s: &SilkDecoderState, khz: i32) -> bool
 }
 
 #[tactic(auto, using(crate::proofs::Tests::words), unfolding(crate::specs::Settings::is_squelch))]
-fn is_squelch(q: i32) -> bool
+pub fn is_squelch(q: i32) -> bool
     ensures { result ≡ is_squelch q }
 {
     within(0, 10000, q)

@@ -1,5 +1,5 @@
 // Editions of the standard, by the number of their RFC.
-// No enum stands for the two: a call brings a number, and a state can hold one that is no edition.
+// Not an enum: it would need an Other, as Signal has, and beside is_edition one `==` alone reads it.
 // Inner: every function.
 #![tactic(auto)]
 

@@ -14,11 +14,11 @@ use Rattle.word.specs.Tabulate.{tabulate}
 use Rattle.word.proofs.Lists.{tabulate_cong}
 use Rattle.edition.specs.Edition.{older, newer}
 use Rattle.edition.proofs.Editions.{one_of_two}
-use Rattle.macros.specs.Fixed.{smmul, smulww, smulwb, smlaww, lshift_sat32, round_shift, rshift_round, rshift_round64, clz32}
+use Rattle.macros.specs.Fixed.{smmul, smulww, smulwb, smlaww, lshift_sat32, round_shift, rshift_round, rshift_round64, mul_q, clz32}
 use Rattle.macros.specs.Quotient.{headroom, shift_up, shift_down, normal, first_inverse, second_inverse, inverse32_varq}
 use Rattle.std.specs.Prelude.{Ok, Err}
 use Rattle.refusal.specs.Refusals.{Judged, code_of, if_accepted}
-use Rattle.stability.specs.Stability.{Stability, a_limit, reflection, rc_mult1, rc_mult2, next_gain, bit_length, mul_q, step_down, stepped, next_coefficients, fits32, all_fit, goes_on, step, and_then, steps, total, stability_by, stability, inverse_gain, answer_number}
+use Rattle.stability.specs.Stability.{Stability, a_limit, reflection, rc_mult1, rc_mult2, next_gain, bit_length, step_down, stepped, next_coefficients, fits32, all_fit, goes_on, step, and_then, steps, total, stability_by, stability, inverse_gain, answer_number}
 use Rattle.nlsf.specs.Lines.{lpc_coefficients}
 use Rattle.nlsf.specs.Expand.{next_factor, factor32, bwexpander32}
 use Rattle.nlsf.specs.Fit.{Fit, in_q12, rounded, lpc_fit}

@@ -76,14 +76,14 @@ cut-times f zero = record { factor = record { sfits = omega arith }; term = reco
 cut-times f (suc n) = cut-joined (times f n) f
 
 -- leaps add
-pub times-add : (f : Leap) (m n : ℕ) → joined (times f m) (times f n) ≡ times f (m + n)
+pub times_add : (f : Leap) (m n : ℕ) → joined (times f m) (times f n) ≡ times f (m + n)
 unfolding times
-times-add f m zero =
+times_add f m zero =
     let e : m ≡ m + 0 = omega arith in
     no_draw-joined (times f m) (cut-times f m) ∙ ap (times f) e
-times-add f m (suc n) =
+times_add f m (suc n) =
     let e : suc (m + n) ≡ m + suc n = omega arith in
-    sym (joined_assoc (times f m) (times f n) f) ∙ ap (λ (g : Leap). joined g f) (times-add f m n) ∙ ap (times f) e
+    sym (joined_assoc (times f m) (times f n) f) ∙ ap (λ (g : Leap). joined g f) (times_add f m n) ∙ ap (times f) e
 
 -- n times a leap twice as long
 pub times-twice : (f : Leap) (n : ℕ) → times (joined f f) n ≡ times f (2 * n)
@@ -122,7 +122,7 @@ unfolding doubled
 doubled-is zero = sym one-once
 doubled-is (suc i) =
     let e : 2 ^ i + 2 ^ i ≡ 2 ^ suc i = omega arith in
-    (λ j. joined (doubled-is i j) (doubled-is i j)) ∙ times-add one_draw (2 ^ i) (2 ^ i) ∙ ap leap_of e
+    (λ j. joined (doubled-is i j) (doubled-is i j)) ∙ times_add one_draw (2 ^ i) (2 ^ i) ∙ ap leap_of e
 
 -- 2 ^ 32 draws are none
 doubled_32 : doubled 32 ≡ no_draw
@@ -155,7 +155,7 @@ periods zero r =
     ap leap_of e
 periods (suc q) r =
     let e : 2 ^ 32 * suc q + r ≡ 2 ^ 32 + (2 ^ 32 * q + r) = omega arith in
-    ap leap_of e ∙ sym (times-add one_draw (2 ^ 32) (2 ^ 32 * q + r)) ∙ ap (λ (f : Leap). joined f (leap_of (2 ^ 32 * q + r))) period
+    ap leap_of e ∙ sym (times_add one_draw (2 ^ 32) (2 ^ 32 * q + r)) ∙ ap (λ (f : Leap). joined f (leap_of (2 ^ 32 * q + r))) period
     ∙ no_draw-first (leap_of (2 ^ 32 * q + r)) (cut-times one_draw (2 ^ 32 * q + r))
     ∙ periods q r
 
@@ -167,23 +167,23 @@ undone k =
     let h : k % M < M = mod-lt k (omega arith) in
     let s = mod-add-div' k M in
     let e : k + (M - k % M) ≡ M * (k / M + 1) + 0 = omega (arith, s, h) in
-    times-add one_draw k (M - k % M) ∙ ap leap_of e ∙ periods (k / M + 1) 0 ∙ leap_0
+    times_add one_draw k (M - k % M) ∙ ap leap_of e ∙ periods (k / M + 1) 0 ∙ leap_0
 
-pub undone-at : (k : ℕ) (x : ℤ) → SFits w32 x → drawn (drawn x k) (undoing k) ≡ x
-undone-at k x h =
+pub undone_at : (k : ℕ) (x : ℤ) → SFits w32 x → drawn (drawn x k) (undoing k) ≡ x
+undone_at k x h =
     sym (leap_drawn (undoing k) (drawn x k) (drawn-fits x k h)) ∙ ap (landed (leap_of (undoing k))) (sym (leap_drawn k x h))
     ∙ sym (landed-joined (leap_of k) (leap_of (undoing k)) x)
     ∙ ap (λ (f : Leap). landed f x) (undone k)
     ∙ no_draw_lands x h
 
-pub undone-before : (k : ℕ) → joined (leap_of (undoing k)) (leap_of k) ≡ no_draw
-undone-before k =
+pub undone_before : (k : ℕ) → joined (leap_of (undoing k)) (leap_of k) ≡ no_draw
+undone_before k =
     let e : undoing k + k ≡ k + undoing k = omega arith in
-    times-add one_draw (undoing k) k ∙ ap leap_of e ∙ sym (times-add one_draw k (undoing k)) ∙ undone k
+    times_add one_draw (undoing k) k ∙ ap leap_of e ∙ sym (times_add one_draw k (undoing k)) ∙ undone k
 
 -- only the draws modulo 2 ^ 32 count
-pub whole-periods : (k : ℕ) → leap_of k ≡ leap_of (k % 2 ^ 32)
-whole-periods k =
+pub whole_periods : (k : ℕ) → leap_of k ≡ leap_of (k % 2 ^ 32)
+whole_periods k =
     let s = mod-add-div' k (2 ^ 32) in
     let e : k ≡ 2 ^ 32 * (k / 2 ^ 32) + k % 2 ^ 32 = omega (arith, s) in
     ap leap_of e ∙ periods (k / 2 ^ 32) (k % 2 ^ 32)
@@ -204,7 +204,7 @@ halved all power n k m = go (eqb (n % 2) 1) refl
     half : (b : ℕ) (f : Leap) → f ≡ times power b → n ≡ b + 2 * (n / 2) → joined (joined all f) (times (joined power power) (n / 2)) ≡ joined all (times power n)
     half b f d e =
         joined_assoc all f (times (joined power power) (n / 2))
-        ∙ ap (joined all) ((λ i. joined (d i) (times-twice power (n / 2) i)) ∙ times-add power b (2 * (n / 2)) ∙ ap (times power) (sym e))
+        ∙ ap (joined all) ((λ i. joined (d i) (times-twice power (n / 2) i)) ∙ times_add power b (2 * (n / 2)) ∙ ap (times power) (sym e))
 
     even : (n % 2 ≡ 1 → ⊥) → n ≡ 0 + 2 * (n / 2)
     even h = omega (arith, h)

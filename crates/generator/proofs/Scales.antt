@@ -15,6 +15,7 @@ use mir.Val.{SFits, hbits}
 use Rattle.word.proofs.Mod.{mod_ℤ_lt}
 use Rattle.word.specs.Tabulate.{tabulate}
 use Rattle.word.proofs.Lists.{tabulate-more, length-tabulate, get_or-tabulate, beyond}
+use Rattle.word.proofs.Fits.{AllFit}
 use Rattle.word.proofs.Sizes.{abs-fits}
 use Rattle.word.proofs.Range.{mag_add}
 use Rattle.word.proofs.Parts.{P, N, add_parts, mag_parts}
@@ -23,14 +24,14 @@ use Rattle.generator.specs.Draws.{drawn, unsigned, draw_at}
 use Rattle.generator.specs.Scaled.{scaled, pick, picks}
 
 -- draws that go on from others
-pub drawn-add : (x : ℤ) (m n : ℕ) → drawn (drawn x m) n ≡ drawn x (m + n)
+pub drawn_add : (x : ℤ) (m n : ℕ) → drawn (drawn x m) n ≡ drawn x (m + n)
 unfolding drawn
-drawn-add x m zero =
+drawn_add x m zero =
     let e : m ≡ m + 0 = omega arith in
     ap (drawn x) e
-drawn-add x m (suc n) =
+drawn_add x m (suc n) =
     let e : suc (m + n) ≡ m + suc n = omega arith in
-    ap rand (drawn-add x m n) ∙ ap (drawn x) e
+    ap rand (drawn_add x m n) ∙ ap (drawn x) e
 
 pub unsigned_lt : (x : ℤ) → unsigned x < 2 ^ 32
 unsigned_lt x = mod_ℤ_lt x (2 ^ 32) (omega arith)
@@ -106,7 +107,7 @@ pub get_or-picks : (a : ℤ) (s : ℕ) (x : ℤ) (k n i : ℕ) → i < n → get
 unfolding picks
 get_or-picks a s x k n i h = get_or-tabulate n (λ j. pick a s x (k + j)) i h
 
-pub picks-fit : {w : Width} (a : ℤ) (s : ℕ) (x : ℤ) (k n : ℕ) → SFits w a → SFits w (a +ℤ pos (s - 1)) → (i : ℕ) → SFits w (get_or (picks a s x k n) i (pos 0))
+pub picks-fit : {w : Width} (a : ℤ) (s : ℕ) (x : ℤ) (k n : ℕ) → SFits w a → SFits w (a +ℤ pos (s - 1)) → AllFit w (picks a s x k n)
 picks-fit {w} a s x k n h l i = go (ltb i n) refl
   where
     go : (b : Bool) → ltb i n ≡ b → SFits w (get_or (picks a s x k n) i (pos 0))

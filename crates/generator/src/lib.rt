@@ -72,7 +72,7 @@ pub fn leap_of(draws: u64) -> Leap
     let mut all = no_draw();
     let mut power = one_draw();
     let mut left = draws;
-    // Not `successors` with `take_while`: to the library that chain is endless, and no loop over it is proved to end.
+    // Not `successors` under `take(64)`: the turns also carry two leaps, and that 64 are enough would have to be shown.
     while left > 0 {
         all = joined_if_odd(all, power, left);
         power = joined(power, power);
@@ -106,7 +106,7 @@ fn scaled(low: i32, count: u32, x: i32) -> i64
     wide(low) + (share as i64)
 }
 
-// A signed number of a width, which a draw fits if both ends of its range do.
+// A signed number of a width, which a draw fits if both ends of its range do. Not TryFrom, which can fail: that the number fits is asked here.
 pub trait Narrow: Number + Default {
     ghost width: { Width };
 
@@ -160,6 +160,7 @@ pub fn picks<T: Narrow>(seed: i32, at: u64, low: i32, count: u32, to: &mut [T])
 }
 
 // A leap of k draws is k single ones, leaps add, every leap has one that undoes it, and 2 ^ 32 draws are none.
+#[tactic(auto, using(crate::proofs::Joining::leap_drawn, crate::proofs::Joining::times_add, crate::proofs::Joining::undone, crate::proofs::Joining::undone_before, crate::proofs::Joining::undone_at, crate::proofs::Joining::whole_periods, crate::proofs::Scales::drawn_add))]
 pub fn leaps()
     ensures { LeapDraws × LeapsAdd × LeapUndone × LeapPeriod }
 {}

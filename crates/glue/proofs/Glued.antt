@@ -14,6 +14,7 @@ use Rattle.word.specs.Int.{eq_ℤ, wrap32}
 use Rattle.word.specs.Size.{Bounded}
 use Rattle.word.proofs.Sizes.{fits-abs}
 use Rattle.word.proofs.Words.{wrap-fits}
+use Rattle.word.proofs.Fits.{AllFit}
 use Rattle.sigproc.specs.Energy.{energy_at, energy_shift}
 use Rattle.sigproc.proofs.Energies.{energy_small}
 use Rattle.decoder.specs.Typed.{Words, TypedPlc, Typed}
@@ -24,52 +25,6 @@ use Rattle.decoder.proofs.Bounds.{PlcBounds}
 use Rattle.decoder.proofs.Built.{typed_plc}
 use Rattle.glue.specs.Glue.{hold_energy, ramped, start_gain, lowered, joined, glue_frames}
 use Rattle.glue.proofs.Shifts.{shift_most}
-
--- ---- the frame
-length-ramped : (g s : ℤ) (xs : List ℤ) → length (ramped g s xs) ≡ length xs
-unfolding ramped
-length-ramped g s [] = refl
-length-ramped g s (x ∷ xs) =
-    ap suc (either (λ (l : List ℤ). length l ≡ length xs) (lt_z (pos 65536) (wrap32 (g +ℤ s))) refl (length-ramped (wrap32 (g +ℤ s)) s xs))
-
-abbrev Fit : List ℤ → Type 0
-Fit xs = (i : ℕ) → SFits w16 (get_or xs i (pos 0))
-
-fit-ramped : (g s : ℤ) (xs : List ℤ) → Fit xs → Fit (ramped g s xs)
-unfolding ramped
-fit-ramped g s [] h i = h i
-fit-ramped g s (x ∷ xs) h zero = wrap-fits w16 _
-fit-ramped g s (x ∷ xs) h (suc i) =
-    either Fit (lt_z (pos 65536) (wrap32 (g +ℤ s))) (λ k. h (suc k)) (fit-ramped (wrap32 (g +ℤ s)) s xs (λ k. h (suc k))) i
-
--- what holds of the frame, and of it ramped, holds of it glued
-joined-either : (Q : List ℤ → Type 0) (energy held : ℤ) (frame : List ℤ) → ((g s : ℤ) → Q (ramped g s frame)) → Q frame → Q (joined energy held frame)
-unfolding joined
-joined-either Q energy held frame r k =
-    let shift = energy_shift frame in
-    let received = lowered (pos (energy_at frame shift)) (nat_abs held) shift in
-    let concealed = lowered energy shift (nat_abs held) in
-    let gain = start_gain concealed received in
-    let slope = wrap32 (quot_z (wrap32 (pos 65536 -ℤ gain)) (pos (length frame)) *ℤ pos (2 ^ 2)) in
-    either Q (ltb concealed received) {x = ramped gain slope frame} {y = frame} (r gain slope) k
-
-glued-either : (Q : List ℤ → Type 0) (s : SilkDecoderState) (frame : List ℤ) → ((g s : ℤ) → Q (ramped g s frame)) → Q frame → Q (glue_frames s frame).frame
-unfolding glue_frames
-glued-either Q s frame r k =
-    let h = s.s_plc in
-    let j = joined h.conc_energy h.conc_energy_shift frame in
-    let b = eq_ℤ h.last_frame_lost (pos 0) in
-    either Q (eq_ℤ s.loss_cnt (pos 0)) {x = cond b frame j} {y = frame} (either Q b {x = frame} {y = j} k (joined-either Q h.conc_energy h.conc_energy_shift frame r k)) k
-
-pub length-glued : (s : SilkDecoderState) (frame : List ℤ) → length (glue_frames s frame).frame ≡ length frame
-length-glued s frame = glued-either (λ (l : List ℤ). length l ≡ length frame) s frame (λ g k. length-ramped g k frame) refl
-
-pub words-glued : (s : SilkDecoderState) (n : ℕ) (frame : List ℤ) → Words w16 n frame → Words w16 n (glue_frames s frame).frame
-words-glued s n frame w =
-    record {
-      count = length-glued s frame ∙ w.count;
-      fits = glued-either Fit s frame (λ g k. fit-ramped g k frame w.fits) w.fits;
-    }
 
 -- ---- what concealment holds
 module _ (r : ℕ) (h : SilkPLCState) (lost energy shift : ℤ) (b : PlcBounds r h) (fl : Between 0 1 lost) (fe : energy ≡ pos (nat_abs energy)) (fs : Between 0 31 shift) where

@@ -13,8 +13,7 @@ use lib.ListN.{length}
 use lib.Pow.{pow_mono}
 use Rattle.word.specs.Int.{wrap32, max_ℤ}
 use Rattle.word.proofs.Parts.{P, N, sub_parts_ℤ}
-use Rattle.word.proofs.Sizes.{abs-fits, abs-sub}
-use Rattle.word.proofs.Words.{wrap_id}
+use Rattle.word.proofs.Sizes.{difference_kept}
 use Rattle.macros.specs.Fixed.{clz32}
 use Rattle.sigproc.specs.Energy.{energy_shift}
 
@@ -29,21 +28,18 @@ part-is : (z : ℤ) (a b : ℕ) → P z + b ≡ N z + a → P z ≡ a - b
 part-is (pos n) a b e = omega arith
 part-is (negsuc n) a b e = omega arith
 
-small-sub : (a b : ℕ) → a ≤ 32 → b ≤ 32 → wrap32 (pos a -ℤ pos b) ≡ pos a -ℤ pos b
-small-sub a b h k = wrap_id (abs-fits (pos a -ℤ pos b) (omega (arith, abs-sub (pos a) (pos b))))
-
 -- a shift less another, or 0
 pub difference : (a b : ℕ) → a ≤ 32 → b ≤ 32 → max_ℤ (wrap32 (pos a -ℤ pos b)) (pos 0) ≡ pos (a - b)
 difference a b h k =
     let z = pos a -ℤ pos b in
-    ap (λ (x : ℤ). max_ℤ x (pos 0)) (small-sub a b h k) ∙ above_zero z ∙ ap pos (part-is z a b (omega (arith, sub_parts_ℤ (pos a) (pos b))))
+    ap (λ (x : ℤ). max_ℤ x (pos 0)) (difference_kept a b (omega arith) (omega arith)) ∙ above_zero z ∙ ap pos (part-is z a b (omega (arith, sub_parts_ℤ (pos a) (pos b))))
 
 exact : (z : ℤ) (a b : ℕ) → b ≤ a → P z + b ≡ N z + a → z ≡ pos (a - b)
 exact (pos n) a b h e = ap pos (omega arith)
 exact (negsuc n) a b h e = absurd (omega arith)
 
 pub one_less : (a : ℕ) → 1 ≤ a → a ≤ 32 → wrap32 (pos a -ℤ pos 1) ≡ pos (a - 1)
-one_less a h k = small-sub a 1 k (omega arith) ∙ exact (pos a -ℤ pos 1) a 1 h (omega (arith, sub_parts_ℤ (pos a) (pos 1)))
+one_less a h k = difference_kept a 1 (omega arith) (omega arith) ∙ exact (pos a -ℤ pos 1) a 1 h (omega (arith, sub_parts_ℤ (pos a) (pos 1)))
 
 -- a number below 2 ^ k leaves the places from k on free
 zeros_least : (n k : ℕ) → k ≤ 31 → n < 2 ^ k → 32 ≤ clz32 (pos n) + k

@@ -1,5 +1,6 @@
 // A recorded frame played on a state, and whether a sample of it is beyond a limit in size.
 // Inner: every function.
+// Rate and count stay numbers: the frame's call judges them by rows 1 and 2, and a FrameShape holds only what these let pass.
 #![tactic(auto)]
 
 ghost use Rattle.std.specs.Prelude.{◌≡◌};
@@ -12,7 +13,7 @@ use playback::{frame_sound, lost_sound};
 use record::{Record, Sound};
 use shape::frame_length;
 
-// The state stays beside the flag: it is promised of a loud frame too.
+// The state stays beside the flag: `heard_of` says a loud frame's state too, and a promise is not to shrink.
 #[derive(Clone, Copy)]
 pub struct Heard {
     pub state: SilkDecoderState,

@@ -8,66 +8,48 @@ use native.Mathlib.Numerals.{add-one}
 use borrow.Author.Count.{below_more}
 use borrow.Author.Tests.{leb-true}
 use lib.Dec.{leb}
-use lib.IntN.{ℤ, pos, negsuc, nat_abs, ◌+ℤ◌}
-use lib.ListN.{get_or}
-use mir.Syntax.{w16, w32}
+use lib.IntN.{ℤ, pos, negsuc, ◌+ℤ◌}
+use lib.ListN.{length, get_or, take, drop}
+use lib.Seq.{get_or-take, get_or-drop}
+use mir.Syntax.{w16}
 use mir.Val.{SFits}
 use Rattle.std.proofs.Math.Bool.{and-true}
-use Rattle.std.specs.List.{list_all, range_with_len}
+use Rattle.std.proofs.lemmas.Bool.{and_parts}
+use Rattle.std.proofs.Math.IntN.{+ℤ_idl}
+use Rattle.std.specs.List.{fold, list_all, range_with_len}
 use Rattle.std.proofs.lemmas.List.Folds.{list_all-append}
 use Rattle.std.proofs.lemmas.List.FromFn.{map-range_with_len_more}
-use Rattle.word.specs.Int.{wrap32}
-use Rattle.word.proofs.Sizes.{abs-add, abs-fits, fits-abs}
-use Rattle.word.proofs.Words.{wrap_id, wrap_add_l}
+use Rattle.word.proofs.Totals.{fold_by_place}
+use Rattle.word.proofs.Lists.{length_part}
 use Rattle.decoder.specs.Ranges.{within}
 use Rattle.judge.specs.Taps.{tap_sum, taps_fit}
-use Rattle.word.proofs.Rows.{both}
 
--- a word more, added to a sum that was wrapped
-more : (r s x : ℤ) → r ≡ wrap32 s → wrap32 (r +ℤ x) ≡ wrap32 (s +ℤ x)
-more r s x e = ap (λ (z : ℤ). wrap32 (z +ℤ x)) e ∙ wrap_add_l w32 s x
-
--- five numbers of 16 bits
-module _ (a b c d e : ℤ) (ha : SFits w16 a) (hb : SFits w16 b) (hc : SFits w16 c) (hd : SFits w16 d) (he : SFits w16 e) where
-  pub five : nat_abs (a +ℤ b +ℤ c +ℤ d +ℤ e) ≤ 163840
-  five =
-      omega (
-        arith,
-        abs-add a b,
-        abs-add (a +ℤ b) c,
-        abs-add (a +ℤ b +ℤ c) d,
-        abs-add (a +ℤ b +ℤ c +ℤ d) e,
-        fits-abs a ha,
-        fits-abs b hb,
-        fits-abs c hc,
-        fits-abs d hd,
-        fits-abs e he,
-      )
-
-  -- added up by words
-  pub by-words : wrap32 (wrap32 (wrap32 (wrap32 (a +ℤ b) +ℤ c) +ℤ d) +ℤ e) ≡ a +ℤ b +ℤ c +ℤ d +ℤ e
-  by-words =
-      more _ _ e (more _ _ d (wrap_add_l w32 (a +ℤ b) c)) ∙ wrap_id (abs-fits (a +ℤ b +ℤ c +ℤ d +ℤ e) (omega (arith, five)))
-
-module _ (taps : List ℤ) (h : (i : ℕ) → SFits w16 (get_or taps i (pos 0))) (k : ℕ) where
-  pub sum-small : nat_abs (tap_sum taps k) ≤ 163840
-  unfolding tap_sum
-  sum-small = five _ _ _ _ _ (h (5 * k)) (h (5 * k + 1)) (h (5 * k + 2)) (h (5 * k + 3)) (h (5 * k + 4))
-
-  pub sum_fits : SFits w32 (tap_sum taps k)
-  sum_fits = abs-fits (tap_sum taps k) (omega (arith, sum-small))
+-- added up one by one
+pub by_fold : (taps : List ℤ) (k : ℕ) → 5 * k + 5 ≤ length taps → fold ◌+ℤ◌ (pos 0) (take 5 (drop (5 * k) taps)) ≡ tap_sum taps k
+unfolding tap_sum
+by_fold taps k h =
+    let at : (i : ℕ) → i < 5 → get_or (take 5 (drop (5 * k) taps)) i (pos 0) ≡ get_or taps (5 * k + i) (pos 0) =
+    λ i l. get_or-take 5 (drop (5 * k) taps) i (pos 0) l ∙ get_or-drop (5 * k) taps i (pos 0) in
+    let first : 5 * k + 0 ≡ 5 * k = omega arith in
+    fold_by_place ◌+ℤ◌ total (take 5 (drop (5 * k) taps)) (pos 0) (λ n l. ap (λ (x : ℤ). total n +ℤ x) (sym (at n (omega (arith, l, length_part taps (5 * k) 5 h)))))
+    ∙ ap total (length_part taps (5 * k) 5 h) ∙ ap (λ (z : ℤ). z +ℤ get_or taps (5 * k + 1) (pos 0) +ℤ get_or taps (5 * k + 2) (pos 0) +ℤ get_or taps (5 * k + 3) (pos 0) +ℤ get_or taps (5 * k + 4) (pos 0)) (+ℤ_idl (get_or taps (5 * k + 0) (pos 0)) ∙ ap (λ (i : ℕ). get_or taps i (pos 0)) first)
+  where
+    -- the sum of the first n of them
+    total : ℕ → ℤ
+    total zero = pos 0
+    total (suc n) = total n +ℤ get_or taps (5 * k + n) (pos 0)
 
 in_16 : (z : ℤ) → within (negsuc 32767) (pos 32767) z ≡ true → SFits w16 z
 unfolding within
 in_16 (pos n) e = record { sfits = omega (arith, leb-true n 32767 e) }
-in_16 (negsuc n) e = let b = both (leb n 32767) true e in record { sfits = omega (arith, leb-true n 32767 b.0) }
+in_16 (negsuc n) e = let b = and_parts (leb n 32767) true e in record { sfits = omega (arith, leb-true n 32767 b.0) }
 
 -- each of the n sums fits 16 bits
 pub each_fits : (taps : List ℤ) (n : ℕ) → taps_fit taps n ≡ true → (k : ℕ) → k < n → SFits w16 (tap_sum taps k)
 unfolding taps_fit
 each_fits taps zero e k l = absurd (omega arith)
 each_fits taps (suc n) e k l =
-    let b = both (taps_fit taps n) (within (negsuc 32767) (pos 32767) (tap_sum taps n)) e in
+    let b = and_parts (taps_fit taps n) (within (negsuc 32767) (pos 32767) (tap_sum taps n)) e in
     below_more (λ j. SFits w16 (tap_sum taps j)) n (each_fits taps n b.0) (in_16 (tap_sum taps n) b.1) k (omega arith)
 
 abbrev pub in_word : ℤ → Bool

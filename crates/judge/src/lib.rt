@@ -2,9 +2,7 @@
 // Inner: every function.
 #![tactic(auto)]
 
-ghost use Rattle.std.specs.Prelude.{◌≡◌, not, ◌+◌, ◌*◌, ◌<◌, ◌≤◌, pos, nat_abs, get_or, length};
-ghost use Rattle.std.specs.Int.{w16};
-ghost use Rattle.std.proofs.Common.{SFits};
+ghost use Rattle.std.specs.Prelude.{◌≡◌, not, ◌+◌, ◌*◌, ◌<◌, ◌≤◌, pos, nat_abs, length};
 ghost use Rattle.word.specs.Int.{eq_ℤ};
 ghost use Rattle.refusal.specs.First.{first_of};
 ghost use Rattle.shape.specs.Shape.{shape, rate_of, count_of};
@@ -19,14 +17,6 @@ use decoder::{
 };
 use refusal::{Refusal, refuse_if};
 use shape::{Rate, count_of, frame_length, is_count, is_rate};
-use word::{add32, wide16};
-
-fn tap(taps: &[i16], i: usize) -> i32
-    requires { i < length taps.now }
-    ensures { (result ≡ get_or taps.now i (pos 0)) × SFits w16 result }
-{
-    wide16(taps[i])
-}
 
 // The five taps of subframe k, added up.
 pub fn tap_sum(taps: &[i16], k: usize) -> i32
@@ -34,9 +24,7 @@ pub fn tap_sum(taps: &[i16], k: usize) -> i32
     ensures { (result ≡ tap_sum taps.now k) × (nat_abs result ≤ 163840) }
 {
     let at = 5 * k;
-    let two = add32(tap(taps, at), tap(taps, at + 1));
-    let four = add32(add32(two, tap(taps, at + 2)), tap(taps, at + 3));
-    add32(four, tap(taps, at + 4))
+    taps[at..at + 5].iter().map(|t| i32::from(*t)).sum()
 }
 
 fn run_full_row(loss_cnt: i32) -> bool
@@ -92,6 +80,7 @@ fn taps_fit(taps: &[i16; 20], n: usize) -> bool
     requires { n ≤ 4 }
     ensures { result ≡ taps_fit taps.now n }
 {
+    // By number, which tap_sum takes and its definition counts by.
     (0..n).all(|k| within(-32768, 32767, tap_sum(taps, k)))
 }
 

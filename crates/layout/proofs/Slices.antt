@@ -11,7 +11,7 @@ use lib.ListN.{length, drop}
 use mir.Syntax.{Width, w16, w32}
 use Rattle.word.proofs.Fits.{AllFit, take-fits, drop-fits}
 use Rattle.word.proofs.Lists.{length_part}
-use Rattle.word.proofs.Rows.{neither}
+use Rattle.std.proofs.lemmas.Bool.{or_parts}
 use Rattle.decoder.specs.Typed.{Words, Typed, TypedControl, TypedRows}
 use Rattle.layout.specs.Layout.{WORDS, HALVES, part, short_state, cng_in, plc_in, settings_in, state_in}
 use Rattle.layout.specs.Frame.{FRAME, COEFS, short_frame, short_call, control_in, rows_in}
@@ -83,19 +83,19 @@ rows_typed coefs f l =
 pub state_long : (words halves : ℕ) → short_state words halves ≡ false → (WORDS ≤ words) × (HALVES ≤ halves)
 unfolding short_state
 state_long words halves e =
-    let b = neither (ltb words WORDS) (ltb halves HALVES) e in
+    let b = or_parts (ltb words WORDS) (ltb halves HALVES) e in
     (ltb-false words WORDS b.0, ltb-false halves HALVES b.1)
 
 pub frame_long : (words halves frame : ℕ) → short_frame words halves frame ≡ false → (WORDS ≤ words) × (HALVES ≤ halves) × (FRAME ≤ frame)
 unfolding short_frame
 frame_long words halves frame e =
-    let b = neither (short_state words halves) (ltb frame FRAME) e in
+    let b = or_parts (short_state words halves) (ltb frame FRAME) e in
     let l = state_long words halves b.0 in
     (l.0, l.1, ltb-false frame FRAME b.1)
 
 pub call_long : (words halves frame coefs : ℕ) → short_call words halves frame coefs ≡ false → (WORDS ≤ words) × (HALVES ≤ halves) × (FRAME ≤ frame) × (COEFS ≤ coefs)
 unfolding short_call
 call_long words halves frame coefs e =
-    let b = neither (short_frame words halves frame) (ltb coefs COEFS) e in
+    let b = or_parts (short_frame words halves frame) (ltb coefs COEFS) e in
     let l = frame_long words halves frame b.0 in
     (l.0, l.1, l.2, ltb-false coefs COEFS b.1)

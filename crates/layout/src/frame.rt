@@ -27,7 +27,7 @@ pub fn short_call(words: usize, halves: usize, frame: usize, coefs: usize) -> bo
     short_frame(words, halves, frame) || coefs < COEFS
 }
 
-// A number of 8 bits, as three places read it; one outside them counts as -1, which row 5 refuses.
+// Three numbers are read so. Not an Option: for a number outside 8 bits -1 stands, and row 5 refuses both alike.
 #[tactic(auto, unfolding(crate::specs::Frame::small))]
 fn small(z: i32) -> i8
     ensures { result ≡ small z }
@@ -49,6 +49,7 @@ impl FrameNumbers<'_> {
         ensures { result ≡ params_in self.entry.numbers.now }
     {
         let signal = Signal::from(small(self.numbers[3]));
+        // The seed as le's `low_byte`, and then signed: le is no library of this crate, and would be one for this line alone.
         Params {
             signal,
             quant_offset_type: small(self.numbers[4]),

@@ -9,7 +9,6 @@ ghost use Rattle.std.specs.Prelude.{◌≡◌, ◌+◌, ◌≤◌, length};
 ghost use Rattle.layout.specs.Layout.{part, WORDS, HALVES, short_state, numbers, last_numbers, with_words, with_halves, StateStored};
 ghost use Rattle.layout.specs.Frame.{FrameStored};
 ghost use Rattle.layout.specs.Lent.{SameState, SameFrame, IsStored};
-ghost use Rattle.sigproc.specs.Place.{put_at};
 
 use decoder::{Answer, SilkDecoderState};
 use frame::FrameSlices;

@@ -107,11 +107,6 @@ pub signed_from : (w : Width) (b : List ℕ) (at u : ℕ) → unsigned_at (bytes
 unfolding signed_at wrap
 signed_from w b at u e h = ap (to_z w) (sym (mod-eq_of_lt h)) ∙ ap (λ (n : ℕ). to_z w (n % 2 ^ bits w)) (sym e)
 
--- a word's bits have its bytes
-pub bits_bytes : (w : Width) (z : ℤ) → SFits w z → bytes_of (bytes_in w) (pos (of_z w z)) ≡ bytes_of (bytes_in w) z
-bits_bytes w z h =
-    bytes_cong (bytes_in w) (pos (of_z w z)) z (subst (λ (m : ℕ). of_z w z % m ≡ mod_ℤ z m) (sym (word_bytes w)) (low_bits w 0 (bits w) z (omega arith) h))
-
 -- the four bytes of a number, each by one division
 pub four_low : (n : ℕ) → n % 256 ∷ n / 256 % 256 ∷ n / 65536 % 256 ∷ n / 16777216 % 256 ∷ [] ≡ bytes_of 4 (pos n)
 four_low n =

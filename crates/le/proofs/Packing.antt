@@ -19,6 +19,7 @@ use Rattle.std.proofs.lemmas.List.{take_more}
 use Rattle.std.proofs.lemmas.List.Concat.{flat_map-append}
 use Rattle.word.specs.Int.{wrap}
 use Rattle.word.specs.Tabulate.{tabulate}
+use Rattle.word.proofs.Fits.{AllFit}
 use Rattle.word.proofs.Lists.{length_part, get_or-tabulate, length-tabulate, tabulate_cong, tabulate-get_or}
 use Rattle.le.specs.Bytes.{Bytes, bytes_of, bytes_in, number_of, unsigned_at, signed_at, words_by, words_at, packed, packed_by, with_bytes}
 use Rattle.le.proofs.Numbers.{length-bytes_of, wrap_of_bytes, bytes_of-wrap}
@@ -69,7 +70,7 @@ part_of_packed w xs (suc n) i q h = go (part_of_packed w xs n i (bytes_of (bytes
         (take_at (bytes_of (bytes_in w) (get_or xs n (pos 0))) q (bytes_in w) (length-bytes_of (bytes_in w) (get_or xs n (pos 0))))
 
 -- words that are written at a place are read there
-pub words_back : (w : Width) (xs : List ℤ) (b : List ℕ) (at n : ℕ) (q : List ℕ) → length xs ≡ n → ((i : ℕ) → SFits w (get_or xs i (pos 0))) → drop at b ≡ packed w xs n ++ q → words_at w b at n ≡ xs
+pub words_back : (w : Width) (xs : List ℤ) (b : List ℕ) (at n : ℕ) (q : List ℕ) → length xs ≡ n → AllFit w xs → drop at b ≡ packed w xs n ++ q → words_at w b at n ≡ xs
 words_back w xs b at n q l f e =
     tabulate_cong n (λ i. signed_at w b (at + bytes_in w * i)) (λ i. get_or xs i (pos 0)) (λ i h. signed_back w (get_or xs i (pos 0)) b (at + bytes_in w * i) (f i) (part i h))
     ∙ ap (λ (m : ℕ). tabulate m (λ i. get_or xs i (pos 0))) (sym l) ∙ tabulate-get_or xs

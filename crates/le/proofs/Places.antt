@@ -54,12 +54,6 @@ with-more d at p q k h e =
     ∙ drop-drop (length q) (at + length p) d ∙ ap (λ (n : ℕ). drop n d) l in
     rw (t, r, append_assoc (take at d) p q)
 
-pub length-with : (d : List ℕ) (at : ℕ) (b : List ℕ) → at + length b ≤ length d → length (with_bytes d at b) ≡ length d
-unfolding with_bytes
-length-with d at b h =
-    length-append (take at d ++ b) (drop (at + length b) d)
-    ∙ omega (arith, front d at b (omega arith), length-drop (at + length b) d)
-
 -- nothing stored
 pub with_none : (d : List ℕ) (at : ℕ) → with_bytes d at [] ≡ d
 unfolding with_bytes

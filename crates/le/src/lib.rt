@@ -29,6 +29,7 @@ pub trait Word: Copy + Default {
     ghost sized: { (x : Self) → length (bytes x) ≡ SIZE };
 }
 
+// Each reads its bytes by place, as the laws of its bytes do (crates/le/proofs/Places.antt). layout's `part` takes an array from a slice, but layout is no library of this crate.
 impl Word for i8 {
     ghost SIZE = { 1 };
 
@@ -129,7 +130,7 @@ impl Word for i32 {
     ghost sized = { λ _. refl };
 }
 
-// N numbers, one behind the other, from place at on.
+// N numbers, one behind the other, from place at on. By a loop: the closure of `array::from_fn` would state the room again, and no law of the library makes a `map` of what it promises.
 #[tactic(auto, using(crate::proofs::Packing::word_room))]
 pub fn words_at<T: Word, const N: usize>(b: &[u8], at: usize) -> [T; N]
     requires { at + T.SIZE * N ≤ length b.now }
@@ -142,14 +143,14 @@ pub fn words_at<T: Word, const N: usize>(b: &[u8], at: usize) -> [T; N]
     words
 }
 
-// `as u8` takes only a number that fits, so that the mask and its proof stand here once.
+// `as u8` takes only a number that fits, so that the mask stands here for both heads that are written. layout has one more, for a signed byte.
 pub fn low_byte(x: i32) -> u8
     ensures { result ≡ mod_ℤ x 256 }
 {
     (x & 255) as u8
 }
 
-// All bytes, stored from place at on.
+// All bytes, stored from place at on. sigproc's `copy_at` does this for any element, but lies above macros and shape, which bytes don't need.
 #[tactic(auto, unfolding(crate::specs::Bytes::with_bytes))]
 pub fn put_bytes(to: &mut [u8], at: usize, bytes: &[u8])
     requires { at + length bytes.now ≤ length to.old }

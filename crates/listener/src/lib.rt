@@ -82,6 +82,7 @@ pub fn followed(seed: i32, squelch: u32, k: Link, frames: u32) -> Counts
     let mut received: u32 = 0;
     let mut concealed: u32 = 0;
     let mut squelched: u32 = 0;
+    // Rounds that read no number of their own.
     for _ in 0..frames {
         let quiet = silent(squelch, losses);
         received = counted(received, good);

@@ -79,8 +79,8 @@ plays_from s l c h (then {x} t ts) (then p ps) =
     then (not_refused s l x c p (omega arith), c.count)
     (plays_from (state_after s x) (count_after s x l) (counts-after s l x c t) (omega arith) ts ps)
 
-pub frames-played : FramesPlayed
-frames-played khz nb v s xs e ts h ps =
+pub frames_played : FramesPlayed
+frames_played khz nb v s xs e ts h ps =
     every_map (λ t z. ap code_of z.0)
     (plays_from s no_losses (set_up-counts khz nb v s (set_up-fresh khz nb v s e)) (omega arith) ts ps)
 

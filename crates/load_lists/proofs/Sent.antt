@@ -10,7 +10,7 @@ use Rattle.shape.specs.Shape.{shape, is_rate, is_count, frame_length}
 use Rattle.shape.proofs.Shapes.{frame_le}
 use Rattle.decoder.proofs.SetUps.{set_up-fresh}
 use Rattle.lists.specs.Claims.{Every, none, then, TypedCall, TypedCalls, Playable}
-use Rattle.lists.proofs.Plays.{frames-played}
+use Rattle.lists.proofs.Plays.{frames_played}
 use Rattle.load.specs.Load.{before, is_received, pulses_of}
 use Rattle.load.proofs.Valid.{drawn_valid, drawn_typed}
 use Rattle.generator.specs.Draws.{drawn}
@@ -53,7 +53,7 @@ pub any_losses_lem : AnyLosses
 any_losses_lem received khz nb v s seed k i outs e l =
     let f = set_up-fresh khz nb v s e in
     let x = drawn seed k in
-    frames-played khz nb v s (calls_from khz nb x received i outs) e (typed khz nb x received i outs) (rw (as_many khz nb x received i outs) l.few)
+    frames_played khz nb v s (calls_from khz nb x received i outs) e (typed khz nb x received i outs) (rw (as_many khz nb x received i outs) l.few)
     (playable khz nb x f.rate f.count received i l.room)
 
 pub load_played : LoadPlayed

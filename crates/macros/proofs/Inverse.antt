@@ -94,6 +94,3 @@ inverse_le G h k = go (count_leading_zeros 32 G) refl (leading_top 32 G (omega a
 pub inverse_gain_lem : (G : ℕ) → 2 ^ 16 ≤ G → G < 2 ^ 31 → nat_abs (min_ℤ (inverse32_varq (pos G) (pos 46)) (pos 1073741823)) * G ≤ 2 ^ 47
 inverse_gain_lem G h k =
     le_trans (mul-le-mul_right G (abs_min (inverse32_varq (pos G) (pos 46)) 1073741823)) (inverse_le G h k).0
-
-pub inverse-size : (G : ℕ) → 2 ^ 16 ≤ G → G < 2 ^ 31 → nat_abs (min_ℤ (inverse32_varq (pos G) (pos 46)) (pos 1073741823)) ≤ 2 ^ 30
-inverse-size G h k = le_trans (abs_min (inverse32_varq (pos G) (pos 46)) 1073741823) (inverse_le G h k).1

@@ -99,12 +99,6 @@ normal_big (negsuc n) h k e =
     let u = up_neg n h.sfits in
     pos-ne-negsuc 0 (u.0 / 2 ^ 16) (sym (rw u.1 at e))
 
--- ---- a divisor
-pub bits_pos : (z : ℤ) → SFits w32 z → (z ≡ pos 0 → ⊥) → 0 < of_z w32 z
-bits_pos (pos zero) h k = absurd (k refl)
-bits_pos (pos (suc n)) h k = omega arith
-bits_pos (negsuc n) h k = omega arith
-
 neg_fits : (n a : ℕ) → n ≤ suc a → a < 2 ^ 31 → SFits w32 (neg_ℤ (pos n))
 neg_fits zero a h k = record { sfits = omega arith }
 neg_fits (suc n) a h k = record { sfits = omega arith }

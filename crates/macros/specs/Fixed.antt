@@ -59,6 +59,10 @@ rshift_round64 a s =
     (cond (lt_z s (pos 64)) (round_shift a (nat_abs s))
     (floor_div a (2 ^ mod_ℤ s 64) +ℤ pos (mod_ℤ (floor_div a (2 ^ mod_ℤ (s -ℤ pos 1) 64)) 2)))
 
+-- a product rounded by q places
+unfoldable pub mul_q : ℤ → ℤ → ℤ → ℤ
+mul_q a b q = wrap32 (rshift_round64 (a *ℤ b) q)
+
 -- how many zeros stand above the highest set bit of a word
 unfoldable pub clz32 : ℤ → ℕ
 clz32 a = count_leading_zeros 32 (mod_ℤ a (2 ^ 32))

@@ -7,12 +7,12 @@ ghost use Rattle.std.specs.Int.Signed.{quot_z};
 ghost use Rattle.std.specs.Int.{w32};
 ghost use Rattle.std.proofs.Common.{SFits};
 ghost use Rattle.word.specs.Int.{wrap32, floor_div, mod_ℤ, min_ℤ, max_ℤ, sat16, sat32};
-ghost use Rattle.macros.specs.Fixed.{smulww, smulwb, smulbb, smultt, smmul, smlaww, smlawb, add_lshift32, lshift_sat32, rand, rshift_round, rshift_round64, clz32, frac_q7, clz_frac, sqrt_start, sqrt_approx};
+ghost use Rattle.macros.specs.Fixed.{smulww, smulwb, smulbb, smultt, smmul, smlaww, smlawb, add_lshift32, lshift_sat32, rand, rshift_round, rshift_round64, mul_q, clz32, frac_q7, clz_frac, sqrt_start, sqrt_approx};
 ghost use Rattle.macros.specs.Quotient.{headroom, shift_up, shift_down, normal, first_inverse, second_inverse, inverse32_varq, normal_quotient, div32_varq};
 
 use word::{
-    abs32, add32, bits32, low_bit, low16, low32, mul16, mul32, neg32, sat16, sat32, shl32, shl64,
-    shr32, shr64, sub32, sum32, sum64, wide, wide16,
+    abs32, add32, bits32, low_bit, low16, low32, mul16, mul32, neg32, sat32, shl32, shl64, shr32,
+    shr64, sub32, sum64, wide, wide16,
 };
 
 #[tactic(auto, using(crate::proofs::Kept::words), unfolding(crate::specs::Fixed::smulww))]
@@ -43,6 +43,7 @@ pub fn silk_smultt(a: i32, b: i32) -> i32
     mul32(shr32(a, 16), shr32(b, 16))
 }
 
+// The Rust's name, by which its callers are ported, for one operation of the library; so silk_add_sat32, silk_add_sat16, silk_min_32 and silk_max_32.
 pub fn silk_smull(a: i32, b: i32) -> i64
     ensures { result ≡ a *ℤ b }
 {
@@ -84,18 +85,18 @@ pub fn silk_lshift_sat32(a: i32, shift: i32) -> i32
     sat32(shl64(wide(a), shift))
 }
 
-#[tactic(auto, using(crate::proofs::Kept::words))]
+#[tactic(auto, using(word::proofs::Words::kept, word::proofs::Names::sat32_is))]
 pub fn silk_add_sat32(a: i32, b: i32) -> i32
     ensures { result ≡ sat32 (a +ℤ b) }
 {
-    sat32(sum64(a, b))
+    a.saturating_add(b)
 }
 
-#[tactic(auto, using(crate::proofs::Kept::words))]
+#[tactic(auto, using(word::proofs::Words::kept, word::proofs::Names::sat16_is))]
 pub fn silk_add_sat16(a: i16, b: i16) -> i16
     ensures { result ≡ sat16 (a +ℤ b) }
 {
-    sat16(sum32(a, b))
+    a.saturating_add(b)
 }
 
 #[tactic(auto, using(word::proofs::Words::kept, word::proofs::Names::min_is))]
@@ -126,6 +127,7 @@ fn half_up(a: i32, s: i32) -> i32
     low32(shr64(sum64(a, shl32(1, sub32(s, 1))), s))
 }
 
+// Two functions, since they part at large shifts: from 31 up this gives 0, and the next one shifts by the low bits of the amount.
 #[tactic(auto, using(crate::proofs::Kept::shifts, crate::proofs::Rounding::round_is), unfolding(crate::specs::Fixed::rshift_round))]
 pub fn silk_rshift_round(a: i32, shift: i32) -> i32
     ensures { result ≡ rshift_round a shift }
@@ -147,6 +149,14 @@ pub fn silk_rshift_round64(a: i64, shift: i32) -> i64
         return shl64(a, neg32(shift));
     }
     shr64(a, shift) + low_bit(shr64(a, sub32(shift, 1)))
+}
+
+// A product rounded by q places, the low 32 bits.
+#[tactic(auto, using(crate::proofs::Kept::words), unfolding(crate::specs::Fixed::mul_q))]
+pub fn mul_q(a: i32, b: i32, q: i32) -> i32
+    ensures { result ≡ mul_q a b q }
+{
+    low32(silk_rshift_round64(silk_smull(a, b), q))
 }
 
 #[tactic(auto, using(crate::proofs::Kept::words), unfolding(crate::specs::Fixed::clz32))]

@@ -3,12 +3,11 @@
 #![tactic(auto)]
 
 use decoder::Frame;
-use input::read_full;
 use record::Record;
 use recorder::{append_lost, append_received, begin};
 use refusal::Refusal;
 use std::io::{self, Read, Write};
-use stream::{Head, Told, read_header};
+use stream::{Head, Told};
 
 fn add(out: &mut [u8], i: usize, rate: i32, subframes: i32, r: &Record) -> Result<(), Refusal> {
     match r.frame() {
@@ -63,9 +62,7 @@ fn main(rt: HostRuntime) -> io::Result<()> {
     let mut input = rt.stdin();
     let mut out = rt.stdout();
     let mut err = rt.stderr();
-    let mut header = [0u8; 16];
-    let got = read_full(&mut input, &mut header)?;
-    match read_header(&header, got) {
+    match Head::read(&mut input)? {
         Ok(h) => record_stream(&mut input, &mut out, &mut err, h),
         Err(why) => {
             let told = Told {

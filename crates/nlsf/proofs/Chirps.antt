@@ -6,11 +6,11 @@ use native.Mathlib.Nat.{mul-le-mul_left, div-mul-le_self, pow-suc}
 use native.Mathlib.Omega.{arith}
 use borrow.Author.Tests.{ltb-true}
 use lib.Dec.{T}
-use lib.IntN.{ℤ, pos, negsuc, nat_abs, ◌-ℤ◌, ◌*ℤ◌}
+use lib.IntN.{ℤ, pos, negsuc, nat_abs, ◌*ℤ◌}
 use lib.Pow.{pow_mono}
 use lib.Signed.{lt_z, non_neg}
 use Rattle.word.specs.Int.{wrap32, mod_ℤ}
-use Rattle.word.proofs.Sizes.{abs-sub, abs-fits}
+use Rattle.word.proofs.Sizes.{abs-fits}
 use Rattle.word.proofs.Words.{wrap_id}
 
 -- the quotient of a chirp
@@ -21,10 +21,6 @@ quotient_le m k l h =
     let b : 8192 ≤ d = omega arith in
     let a : q * 8192 ≤ q * d = mul-le-mul_left q b in
     omega (arith, div-mul-le_self ((m - 32767) * 16384) d)
-
--- a difference of small numbers
-pub chirp_kept : (n q : ℕ) → n ≤ 65536 → q ≤ 262144 → wrap32 (pos n -ℤ pos q) ≡ pos n -ℤ pos q
-chirp_kept n q h k = wrap_id (abs-fits (pos n -ℤ pos q) (omega (arith, abs-sub (pos n) (pos q))))
 
 -- a number above 32,767
 pub above : (z : ℤ) → lt_z (pos 32767) z ≡ true → T (non_neg z) × (32767 < nat_abs z)

@@ -60,7 +60,3 @@ whole e lines d = rounds_sound e 16 0 _ d (fit-sound 10 (lpc_coefficients lines 
 pub length-nlsf2a : (e : ℤ) (lines : List ℤ) (d : ℕ) → length (nlsf2a e lines d) ≡ d
 unfolding nlsf2a
 length-nlsf2a e lines d = (whole e lines d).0
-
-pub nlsf2a-fits : (e : ℤ) (lines : List ℤ) (d k : ℕ) → SFits w16 (get_or (nlsf2a e lines d) k (pos 0))
-unfolding nlsf2a
-nlsf2a-fits e lines d k = (whole e lines d).2 k

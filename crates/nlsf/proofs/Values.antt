@@ -12,5 +12,5 @@ whole : tabulate 129 lsf_cos ≡ lsf_cos_values
 unfolding tabulate lsf_cos lsf_cos_half lsf_cos_values
 whole = refl
 
-pub lsf_cos-kept : LsfCosKept
-lsf_cos-kept i h = sym (get_or-tabulate 129 lsf_cos i h) ∙ ap (λ (xs : List ℤ). get_or xs i (pos 0)) whole
+pub lsf_cos_kept : LsfCosKept
+lsf_cos_kept i h = sym (get_or-tabulate 129 lsf_cos i h) ∙ ap (λ (xs : List ℤ). get_or xs i (pos 0)) whole

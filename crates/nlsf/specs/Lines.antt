@@ -3,8 +3,7 @@ use Rattle.std.specs.Prelude.{ℕ, zero, suc, ◌+◌, ◌-◌, ◌*◌, ◌/◌
 use Rattle.std.specs.Int.Signed.{lt_z}
 use Rattle.word.specs.Int.{wrap32}
 use Rattle.word.specs.Tabulate.{tabulate}
-use Rattle.macros.specs.Fixed.{rshift_round}
-use Rattle.stability.specs.Stability.{mul_q}
+use Rattle.macros.specs.Fixed.{rshift_round, mul_q}
 use Rattle.nlsf.specs.Table.{lsf_cos}
 
 -- one of the first n lines is negative

@@ -19,12 +19,12 @@ ghost use Rattle.nlsf.specs.Fit.{higher, largest_by, maxabs, fit_chirp, in_q12, 
 ghost use Rattle.nlsf.specs.Filter.{round_chirp, stabilised, nlsf2a, nlsf2a_refusal, nlsf2a_of};
 
 use edition::{NEWER, is_edition};
-use macros::{silk_rshift_round, silk_smulww};
+use macros::{mul_q, silk_rshift_round, silk_smulww};
 use refusal::{Refusal, refuse_if};
 use shape::Order;
-use stability::{Coefs, inverse_pred_gain, mul_q};
+use stability::{Coefs, inverse_pred_gain};
 use tables::{ORDERING10, ORDERING16, SILK_LSF_COS_TAB_FIX_Q12};
-use word::{abs32, add32, low16, mul32, neg32, sat16, shl32, sub32, wide16};
+use word::{abs32, add32, low16, map_into, mul32, neg32, sat16, shl32, sub32, wide16};
 
 // The largest number found, and its place.
 #[derive(Clone, Copy)]
@@ -45,6 +45,7 @@ pub fn lsf_cos(i: usize) -> i16
 }
 
 // The 129 entries are those of tables.rs.
+#[tactic(auto, using(crate::proofs::Values::lsf_cos_kept))]
 pub fn lsf_cos_kept()
     ensures { LsfCosKept }
 {}
@@ -205,11 +206,10 @@ pub fn largest_by<F: Fn(i32) -> i32>(a: &[i32], size: F) -> Largest
     requires { F.IsAlwaysCallable size }
     ensures { (h : ℤ → ℤ) → ((x y : ℤ) → FitsSigned w32 x → F.post size x y → y ≡ h x) → result ≡ largest_by h a.now (length a.now) }
 {
-    let mut p = Largest { size: 0, place: 0 };
-    for (k, x) in a.iter().enumerate() {
-        p = higher(p, size(*x), k);
-    }
-    p
+    let none = Largest { size: 0, place: 0 };
+    a.iter()
+        .enumerate()
+        .fold(none, |p, (k, x)| higher(p, size(*x), k))
 }
 
 fn maxabs(a: &[i32]) -> Largest
@@ -234,14 +234,12 @@ fn in_q12(x: i32) -> i32
     silk_rshift_round(x, 5)
 }
 
+// Not a struct of the two slices here and in the two functions below: each would need a clause that the slices are still the caller's, in place of the clause of their lengths.
 fn rounded(a_q12: &mut [i16], a: &[i32])
     requires { length a_q12.old ≡ length a.now }
     ensures { a_q12.new ≡ rounded a.now }
 {
-    // Not a zip: after one over `iter_mut` only the length of a_q12 is known.
-    for (k, x) in a.iter().enumerate() {
-        a_q12[k] = low16(in_q12(*x));
-    }
+    map_into(a, a_q12, |x| low16(in_q12(x)));
 }
 
 fn saturated(a: &mut [i32])
@@ -281,7 +279,7 @@ fn silk_lpc_fit(a_q12: &mut [i16], a: &mut [i32])
     rounded(a_q12, a);
 }
 
-#[tactic(auto, using(macros::proofs::Kept::words, crate::proofs::Chirps::chirp_kept, crate::proofs::Chirps::round_shift_lem, crate::proofs::Chirps::round_le), unfolding(crate::specs::Filter::round_chirp))]
+#[tactic(auto, using(macros::proofs::Kept::words, word::proofs::Sizes::difference_kept, crate::proofs::Chirps::round_shift_lem, crate::proofs::Chirps::round_le), unfolding(crate::specs::Filter::round_chirp))]
 fn round_chirp(i: usize) -> i32
     requires { i < 16 }
     ensures { result ≡ round_chirp i }

@@ -23,6 +23,7 @@ fn small_numbers(received: bool, rate: i32, subframes: i32, q: Params) -> [i32; 
     ]
 }
 
+// A flag beside the parameters, and no Frame: a load's lost frame has its drawn parameters too, and is lent with them.
 pub fn put_frame(
     frame: &mut [i32],
     received: bool,

@@ -8,11 +8,11 @@ ghost use Rattle.play.specs.Play.{sound_of, how_of, total, counted_of};
 use decode_frame::silk_decode_frame;
 use decoder::{Answer, Frame, Settings, SilkDecoderState, set_up_with};
 use edition::NEWER;
-use input::{fill, read_full};
+use input::fill;
 use record::Record;
 use refusal::Refusal;
 use std::io::{self, Read, Write};
-use stream::{Head, Told, read_header, samples_bytes, silence, wav_header};
+use stream::{Head, Told, samples_bytes, wav_header};
 
 // What a record's frame is answered by, and its samples as bytes.
 #[derive(Clone, Copy)]
@@ -29,13 +29,13 @@ fn played(s: SilkDecoderState, rate: i32, subframes: i32, r: &Record) -> Sound
     let rows = r.rows();
     let lines = r.lines();
     let pulses = r.pulses();
-    let mut xq = silence();
+    let mut xq = [0; 320];
     let answer = silk_decode_frame(s, rate, subframes, frame, c, rows, lines, &pulses, &mut xq);
     let bytes = samples_bytes(&xq);
     Sound { answer, bytes }
 }
 
-// What became of a record's frame.
+// What became of a record's frame. Not a Result of the frame: a received one brings its parameters, and three counts go by three names.
 #[derive(Clone, Copy)]
 enum Ended {
     Received,
@@ -148,6 +148,7 @@ fn play(
         return writeln!(err, "the WAV file could not be written");
     }
     // Not decoder's defaults, so that one that changes moves no stream: its samples are the Rust's, with no squelch and the newer edition.
+    // Not playback's `set_up_for` with the same two either, which would bring the crates of yard recordings below this program.
     let settings = Settings {
         squelch: 0,
         edition: NEWER,
@@ -162,9 +163,7 @@ fn main(rt: HostRuntime) -> io::Result<()> {
     let mut input = rt.stdin();
     let mut out = rt.stdout();
     let mut err = rt.stderr();
-    let mut header = [0u8; 16];
-    let got = read_full(&mut input, &mut header)?;
-    match read_header(&header, got) {
+    match Head::read(&mut input)? {
         Ok(h) => {
             say_stream(&mut err, h)?;
             play(&mut input, &mut out, &mut err, h)

@@ -13,7 +13,6 @@ use Rattle.refusal.specs.Refusals.{Judged, code_of}
 use Rattle.refusal.specs.declared.Refusal.{Refusal}
 use Rattle.refusal.specs.declared.Refusal.TheVariants.{Record}
 use Rattle.refusal.proofs.Clear.{clear}
-use Rattle.decoder.specs.Answer.{answer}
 use Rattle.decoder.specs.declared.SilkDecoderState.{SilkDecoderState}
 use Rattle.chain.specs.Chain.{records_in, chain_of, on_chain}
 use Rattle.decode_frame.specs.Call.{Call}

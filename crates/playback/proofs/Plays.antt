@@ -26,7 +26,7 @@ use Rattle.chain.specs.Chain.{chain_of, on_chain}
 use Rattle.recording.specs.Frames.{rate_in, count_in, recorded_at, frames_in, described, described_all}
 use Rattle.recording.proofs.Answers.{rows-clear, few-frames}
 use Rattle.lists.specs.Claims.{Every, TypedCall, TypedCalls, Playable}
-use Rattle.lists.proofs.Plays.{frames-played}
+use Rattle.lists.proofs.Plays.{frames_played}
 use Rattle.playback.specs.Playback.{no_control, silence, call_of, plain, start_of}
 use Rattle.playback.specs.Claims.{RecordingPlays}
 use Rattle.playback.proofs.Read.{settings-fit}
@@ -104,7 +104,7 @@ recording_plays b t a =
     let l : length (map (call_of (rate_in b) (count_in b)) (frames_in b)) ≤ 2147483647 = omega (arith, length-map (frames_in b) (call_of (rate_in b) (count_in b)), length-frames b, few-frames b r.whole) in
     let s = set_up_state (rate_in b) (count_in b) plain r.rate r.count settings-fit in (
       s,
-      frames-played (rate_in b) (count_in b) plain (start_of b) (map (call_of (rate_in b) (count_in b)) (frames_in b))
+      frames_played (rate_in b) (count_in b) plain (start_of b) (map (call_of (rate_in b) (count_in b)) (frames_in b))
           s
           (all_typed (rate_in b) (count_in b) r.rate r.count b ks)
           l

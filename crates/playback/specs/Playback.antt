@@ -1,5 +1,5 @@
 -- Document 02, Note 9: a recording played by a post that is set up for its shape.
-use Rattle.std.specs.Prelude.{ℕ, ◌+◌, ◌-◌, ◌*◌, List, [], ◌∷◌, ◌++◌, ltb, Result, Ok, Err, ℤ, pos, length, take, drop, replicate}
+use Rattle.std.specs.Prelude.{ℕ, ◌+◌, ◌-◌, ◌*◌, List, [], ◌∷◌, ◌++◌, ltb, Result, ℤ, pos, length, take, drop, replicate}
 use Rattle.edition.specs.Edition.{newer}
 use Rattle.refusal.specs.First.{◌gives◌}
 use Rattle.refusal.specs.Refusals.{Judged, if_accepted, answered}
@@ -7,7 +7,6 @@ use Rattle.refusal.specs.declared.Refusal.{Refusal}
 use Rattle.refusal.specs.declared.Refusal.TheVariants.{Record}
 use Rattle.shape.specs.Shape.{frame_length}
 use Rattle.decoder.specs.SetUp.{state_from}
-use Rattle.decoder.specs.declared.Answer.{Answer}
 use Rattle.decoder.specs.declared.Settings.{Settings}
 use Rattle.decoder.specs.declared.SilkDecoderState.{SilkDecoderState}
 use Rattle.decoder.specs.declared.SilkDecoderControl.{SilkDecoderControl}

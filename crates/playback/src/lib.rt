@@ -1,5 +1,6 @@
 // Yard recordings: the player.
 // Inner: every function but play and recording_plays.
+// Rate and count stay numbers: the frame's call judges them by rows 1 and 2, and a FrameShape holds only what these let pass.
 #![tactic(auto)]
 
 ghost use Rattle.std.specs.Prelude.{◌≡◌, ◌++◌, map, ◌*◌, ◌≤◌, IfOk, length, drop};
@@ -76,15 +77,12 @@ fn play_frames(
 {
     let size = shape::frame_length(rate, subframes);
     let mut state = s;
-    // The place is counted by hand: it is the answer.
-    let mut at = 0;
-    for i in frames.records {
+    for (k, i) in frames.records.iter().enumerate() {
         let t = frame_sound(state, rate, subframes, &frames.record(*i));
-        copy_at(output, at, &t.samples[..size]);
+        copy_at(output, k * size, &t.samples[..size]);
         state = t.state;
-        at += size;
     }
-    at
+    frames.records.len() * size
 }
 
 // The received ones among frames.

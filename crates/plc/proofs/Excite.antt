@@ -38,11 +38,6 @@ module _ (exc : List ℤ) (from lag : ℕ) where
   times_pitch zero v = refl
   times_pitch (suc n) v = times_pitch n v
 
-  pub times-length : (n : ℕ) (v : Voice) → length (excited_times exc from lag n v).past ≡ length v.past + n
-  unfolding excited_times excited
-  times-length zero v = omega arith
-  times-length (suc n) v = length_snoc (excited_times exc from lag n v).past _ ∙ omega (arith, times-length n v)
-
   -- the seed of one more sample
   pub seed_more : (n : ℕ) (v : Voice) → rand (excited_times exc from lag n v).seed ≡ (excited_times exc from lag (suc n) v).seed
   unfolding excited_times excited

@@ -6,15 +6,11 @@ use native.Mathlib.Omega.{arith}
 use borrow.Rule.Slice.PartMut.{put_mid, post_of}
 use lib.IntN.{ℤ}
 use lib.ListN.{length, take, drop, length-drop, length-append}
-use lib.Seq.{take-add, take_at, drop_at, take-append-add, drop-append-add, drop-append-le, length-take-le}
+use lib.Seq.{take_at, drop_at, take-append-add, drop-append-add, drop-append-le, length-take-le}
+use Rattle.std.proofs.lemmas.List.{drop-take}
 use Rattle.sigproc.specs.Place.{put_at}
 use Rattle.sigproc.specs.Synthesis.{synthesis}
 use Rattle.sigproc.proofs.Filter.{synth_length}
-
--- a part of the first elements
-pub part : (l : List ℤ) (m n : ℕ) → m ≤ length l → drop m (take (m + n) l) ≡ take n (drop m l)
-part l m n h =
-    ap (drop m) (take-add m n l) ∙ drop_at (take m l) (take n (drop m l)) m (length-take-le m l h)
 
 -- the last elements of the second of three lists
 inside : (p s q : List ℤ) (m j i : ℕ) → m ≡ length p + j → j + i ≡ length s → take i (drop m (p ++ (s ++ q))) ≡ drop j s
@@ -30,7 +26,7 @@ module _ (buf memory a : List ℤ) (d mem len : ℕ) (m16 : length memory ≡ 16
       let base = mem - 16 in
       let e : mem + len - base ≡ length memory + len = omega arith in
       let f : base + length memory ≡ mem = omega arith in
-      rw (e, f, append_assoc (take base buf) memory (drop mem buf), drop_at (take base buf) (memory ++ drop mem buf) base (length-take-le base buf (omega arith)), part buf mem len (omega arith))
+      rw (e, f, append_assoc (take base buf) memory (drop mem buf), drop_at (take base buf) (memory ++ drop mem buf) base (length-take-le base buf (omega arith)), drop-take mem len buf)
       (take-append-add memory (drop mem buf) len)
 
   -- the memory and the samples
@@ -40,7 +36,7 @@ module _ (buf memory a : List ℤ) (d mem len : ℕ) (m16 : length memory ≡ 16
   pub made_in : (x : List ℤ) → x ≡ take (mem + len - (mem - 16)) (drop (mem - 16) (put_at buf (mem - 16) memory)) → synthesis (take 16 x) (drop 16 x) a d (length x - 16) ≡ made
   made_in x e =
       let u = drop mem (take (mem + len) buf) in
-      let lu : length u ≡ len = rw (part buf mem len (omega arith)) (length-take-le len (drop mem buf) (simp length-drop (omega arith))) in
+      let lu : length u ≡ len = rw (drop-take mem len buf) (length-take-le len (drop mem buf) (simp length-drop (omega arith))) in
       let n : length (memory ++ u) - 16 ≡ len = simp length-append (omega arith) in
       rw (e, lent, n, take_at memory u 16 m16, drop_at memory u 16 m16)
 

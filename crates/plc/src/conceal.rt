@@ -1,12 +1,10 @@
 // Concealment of a lost frame (plc.rs, silk_plc_conceal).
 // Inner: every function but silk_plc_lost.
-ghost use Rattle.std.specs.Prelude.{◌≡◌, ◌⊎◌, true, false, cond, map, ◌++◌, ℕ, ◌+◌, ◌-◌, ◌*◌, ◌^◌, ◌≤◌, ◌<◌, ltb, pos, nat_abs, ◌+ℤ◌, ◌-ℤ◌, ◌*ℤ◌, get_or, length, replicate, take, drop};
+ghost use Rattle.std.specs.Prelude.{◌≡◌, true, false, cond, map, ◌++◌, ◌+◌, ◌-◌, ◌*◌, ◌^◌, ◌≤◌, ◌<◌, pos, nat_abs, ◌+ℤ◌, ◌-ℤ◌, ◌*ℤ◌, length, replicate, take, drop};
 ghost use Rattle.std.specs.Int.Signed.{le_z};
 ghost use Rattle.word.specs.Int.{floor_div, mod_ℤ, eq_ℤ, wrap16, wrap32, min_ℤ, max_ℤ};
-ghost use Rattle.word.specs.Tabulate.{tabulate};
 ghost use Rattle.macros.specs.Fixed.{smulwb, smulbb, smlawb};
 ghost use Rattle.macros.specs.Quotient.{inverse32_varq};
-ghost use Rattle.sigproc.specs.Analysis.{residual};
 ghost use Rattle.sigproc.specs.Expand.{bwexpander};
 ghost use Rattle.sigproc.specs.Synthesis.{synthesis, played};
 ghost use Rattle.shape.specs.Order.{size};
@@ -17,7 +15,7 @@ ghost use Rattle.decoder.specs.Ranges.{subframes_held, plc_held, plc_fits};
 ghost use Rattle.judge.specs.Taps.{tap_sum};
 ghost use Rattle.plc.specs.Hold.{hold, plc_ready};
 ghost use Rattle.plc.specs.Answer.{plc_lost, plc_lost_output};
-ghost use Rattle.plc.specs.Conceal.{AllZero, pitched, noise_place, coefficients, voice, signal, held_after, concealed, lagged, plc_conceal, later_gain, signal_by, concealed_by, harm_gain, noise_gain, noise_scale, voice_of, lag_of, rewhitened, excited_times, faded, faded_voice, voices, voice_by};
+ghost use Rattle.plc.specs.Conceal.{AllZero, pitched, noise_place, coefficients, voice, signal, held_after, concealed, lagged, plc_conceal, concealed_by, harm_gain, noise_gain, noise_scale, voice_of, lag_of, rewhitened, excited_times, faded, faded_voice, voices, voice_by};
 
 use crate::update::{noise_place, pitch_max_q8, ready};
 use decoder::{Answer, SilkDecoderControl, SilkDecoderState, SilkPLCState};
@@ -120,11 +118,7 @@ fn faded(gain: i32, x: i16) -> i16
 fn faded_taps(taps: [i16; 5], gain: i32) -> [i16; 5]
     ensures { result ≡ map (faded gain) taps }
 {
-    let mut b = taps;
-    for x in b.iter_mut() {
-        *x = faded(gain, *x);
-    }
-    b
+    taps.map(|x| faded(gain, x))
 }
 
 // The lag (Q8) of the next subframe.
@@ -187,6 +181,7 @@ fn noise_scale(
 }
 
 // The history rewhitened and divided by the gain, as far back as a prediction reads.
+// decode_core's `Past::rewhiten` has these steps too: it needs a room of 480 places, of which 160 would be cleared here for nothing.
 fn rewhiten(
     buf: &mut [i32; 640],
     out_buf: &[i16; 480],
@@ -474,6 +469,7 @@ fn leave(a: &mut Answer, r: Concealed)
     a.control.pitch_l = [r.lag; 4];
 }
 
+// A lost frame that no row refuses, on a state and a description that are lent; its clauses are of the state's own fields, as at conceal_frame.
 #[tactic(auto, unfolding(crate::specs::Conceal::plc_conceal))]
 pub fn plc_conceal(a: &mut Answer, xq: &mut [i16])
     requires { (is_rate a.old.state.fs_khz ≡ true) × (is_count a.old.state.nb_subfr ≡ true) × (plc_fits (rate_of a.old.state.fs_khz) a.old.state.s_plc ≡ true)

@@ -1,6 +1,6 @@
 // What concealment keeps of a received frame, its reset, and where it draws noise from (plc.rs: silk_plc_reset, silk_plc_update, silk_plc_energy).
 // Inner: every function but silk_plc_received.
-ghost use Rattle.std.specs.Prelude.{◌≡◌, [], ◌∷◌, ◌++◌, ◌+◌, ◌-◌, ◌*◌, ◌^◌, ◌≤◌, ◌<◌, pos, nat_abs, length, take, drop, get_or, replicate};
+ghost use Rattle.std.specs.Prelude.{◌≡◌, [], ◌∷◌, ◌+◌, ◌-◌, ◌*◌, ◌^◌, ◌≤◌, ◌<◌, pos, nat_abs, length, take, drop, get_or};
 ghost use Rattle.std.specs.Int.Signed.{lt_z, quot_z};
 ghost use Rattle.word.specs.Int.{sat16, wrap16, floor_div, mod_ℤ, max_ℤ};
 ghost use Rattle.macros.specs.Fixed.{smulww, smulbb};
@@ -10,7 +10,7 @@ ghost use Rattle.decoder.specs.State.{shape_of};
 ghost use Rattle.plc.specs.Hold.{shape_at, plc_ready};
 ghost use Rattle.plc.specs.Update.{stronger, strongest, scaled_tap, pulse_of, middle, plc_updated, updated_by, plc_update};
 ghost use Rattle.plc.specs.Answer.{plc_received};
-ghost use Rattle.plc.specs.Conceal.{heard_by, older_smaller, place_from};
+ghost use Rattle.plc.specs.Conceal.{heard_by, place_from};
 
 use decoder::{Params, Signal, SilkDecoderControl, SilkDecoderState, SilkPLCState, is_voiced};
 use judge::tap_sum;
@@ -18,10 +18,10 @@ use macros::{silk_div32, silk_max_32, silk_smulbb, silk_smulww};
 use refusal::Refusal;
 use shape::{Rate, rate_of};
 use sigproc::{Energy, silk_sum_sqr_shift, with_front};
-use word::{low16, mul32, sat16, shl32, shr32};
+use word::{low16, map_into, mul32, sat16, shl32, shr32};
 
 // If its rate differs, concealment resets.
-// The rate and the count stand apart in this file: its functions hold at every number, and a FrameShape asks for one of the rates.
+// The rate and the count stand apart in this file: received frames come by functions that hold at every number of kHz, and a FrameShape asks for one of the rates.
 pub fn ready(h: SilkPLCState, khz: i32, subframes: usize) -> SilkPLCState
     requires { subframes ≤ 4 }
     ensures { result ≡ plc_ready (shape_at khz subframes) h }
@@ -52,10 +52,7 @@ fn heard(part: &mut [i16], exc: &[i32], gain_q16: i32)
     ensures { part.new ≡ heard_by gain_q16 exc.now }
 {
     let gain_q10 = shr32(gain_q16, 6);
-    // Not a zip: after one over `iter_mut` only the length of part is known.
-    for (i, x) in part.iter_mut().enumerate() {
-        *x = heard_sample(exc[i], gain_q10);
-    }
+    map_into(exc, part, |e| heard_sample(e, gain_q10));
 }
 
 fn heard_energy(exc: &[i32], at: usize, l: usize, gain_q16: i32) -> Energy
@@ -131,6 +128,7 @@ fn strongest_subframe(
     let l = Rate::subfr_length(khz);
     let last = lags[subframes - 1];
     let mut b = Strongest { gain: 0, pitch };
+    // By number, which tap_sum takes: from the newest subframe back, k, with j subframes behind it.
     for (j, k) in (0..subframes).rev().enumerate() {
         let start = (j * l) as i32;
         b = stronger(b, start < last, tap_sum(taps, k), lags[k]);

@@ -1,4 +1,5 @@
 // The functions that a C program links: each is the function of post with the same name.
+// Only a static library exports, and no crate can depend on one, so that each function stands again with its clauses.
 #![tactic(auto)]
 
 ghost use Rattle.std.specs.Prelude.{◌≡◌, [], pos, length};

@@ -1,17 +1,18 @@
 // The functions of filters that a Rust program links, and a C program by post_filters_c.
 #![tactic(auto)]
 
-ghost use Rattle.std.specs.Prelude.{◌≡◌};
-ghost use Rattle.post_filters.specs.Calls.{stability_call, sentence_call, filter_call, cosine_call, rising_call};
+ghost use Rattle.std.specs.Prelude.{◌≡◌, [], ◌∷◌, ltb, length};
+ghost use Rattle.post_filters.specs.Calls.{called, stability_call, sentence_call, filter_call, cosine_call, rising_call};
 ghost use Rattle.post_filters.specs.Claims.{RisingTold};
 
 use announcement::{lsf_cos_at, rising_check};
 use nlsf::silk_nlsf2a_under;
-use refusal::code;
+use refusal::{Refusal, code};
 use sentence::sentence_of;
 use stability::{answer_number, answer_value, silk_lpc_inverse_pred_gain_under};
 
 // A slice that is too short is answered -1, a call that is refused the row's number.
+// The match stands in three functions: one function of all would take what each writes as a closure, and its contract beside it.
 pub fn post_stability(coefficients: &[i16], order: usize, edition: i32, answer: &mut [i32]) -> i32
     ensures { record { answer = result; slice = answer.exit.now } ≡ stability_call coefficients.now order edition answer.entry.now }
 {
@@ -50,34 +51,32 @@ pub fn post_filter(coefficients: &mut [i16], lines: &[i16], order: usize, editio
     code(silk_nlsf2a_under(coefficients, lines, order, edition))
 }
 
-pub fn post_cosine(place: usize, value: &mut [i32]) -> i32
-    ensures { record { answer = result; slice = value.new } ≡ cosine_call place value.old }
+// A call's one number, stored.
+fn put_one(answer: Result<i32, Refusal>, to: &mut [i32]) -> i32
+    ensures { record { answer = result; slice = to.new } ≡ called (ltb (length to.old) 1) (λ x. x ∷ []) answer to.old }
 {
-    if value.len() < 1 {
+    if to.len() < 1 {
         return -1;
     }
-    match lsf_cos_at(place) {
-        Ok(cosine) => {
-            value[0] = i32::from(cosine);
+    match answer {
+        Ok(x) => {
+            to[0] = x;
             0
         }
         Err(refusal) => code(Err(refusal)),
     }
 }
 
+pub fn post_cosine(place: usize, value: &mut [i32]) -> i32
+    ensures { record { answer = result; slice = value.new } ≡ cosine_call place value.old }
+{
+    put_one(lsf_cos_at(place).map(i32::from), value)
+}
+
 pub fn post_rising(lines: &[i16], order: usize, answer: &mut [i32]) -> i32
     ensures { record { answer = result; slice = answer.exit.now } ≡ rising_call lines.now order answer.entry.now }
 {
-    if answer.len() < 1 {
-        return -1;
-    }
-    match rising_check(lines, order) {
-        Ok(rising) => {
-            answer[0] = i32::from(rising);
-            0
-        }
-        Err(refusal) => code(Err(refusal)),
-    }
+    put_one(rising_check(lines, order).map(i32::from), answer)
 }
 
 // post_rising writes 1 exactly if the lines rise, and then post_filter does not answer 9 for them.

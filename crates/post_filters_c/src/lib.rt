@@ -1,4 +1,5 @@
 // The functions of filters that a C program links: each is the function of post_filters with the same name.
+// Only a static library exports, and no crate can depend on one, so that each function stands again with its clauses.
 #![tactic(auto)]
 
 ghost use Rattle.std.specs.Prelude.{◌≡◌};

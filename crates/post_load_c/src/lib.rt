@@ -6,7 +6,7 @@ ghost use Rattle.generator.specs.Draws.{drawn};
 ghost use Rattle.generator.specs.Leaps.{undoing};
 ghost use Rattle.post_load.specs.Calls.{called, load_frame_call};
 
-// C interface: each number and each slice is a parameter, and the exported function is not to change.
+// C interface: each number and each slice is a parameter.
 #[unsafe(no_mangle)]
 pub extern "C" fn post_load_frame(
     rate: i32,

@@ -13,7 +13,9 @@ use Rattle.macros.specs.Fixed.{smulbb}
 use Rattle.shape.specs.Shape.{Shape, subfr_length}
 use Rattle.plc.specs.Conceal.{Voice, harm_gain, lag_of, faded, faded_voice, voices, voice_by, voice, held_after}
 use Rattle.quiet.specs.Taps.{TapsRest}
-use Rattle.quiet.proofs.Voice.{times, times_taps}
+use Rattle.plc.proofs.Excite.{times_taps}
+use Rattle.plc.proofs.Fading.{faded_zero}
+use Rattle.quiet.proofs.Voice.{times}
 
 -- a subframe makes −(n + 1) by 31,130 (Q15) to −(sunk n + 1)
 abbrev sunk : ℕ → ℕ
@@ -51,13 +53,9 @@ nears zero n l h = absurd (omega arith)
 nears (suc k) n l h = omega (arith, stops k n h, sunk-times k n)
 
 -- the middle tap after k subframes
-faded_zero : faded (pos 31130) (pos 0) ≡ pos 0
-unfolding faded smulbb wrap
-faded_zero = refl
-
 faded_tap : (taps : List ℤ) → get_or (map (faded (pos 31130)) taps) 2 (pos 0) ≡ faded (pos 31130) (get_or taps 2 (pos 0))
 faded_tap taps =
-    subst (λ (d : ℤ). get_or (map (faded (pos 31130)) taps) 2 d ≡ faded (pos 31130) (get_or taps 2 (pos 0))) faded_zero
+    subst (λ (d : ℤ). get_or (map (faded (pos 31130)) taps) 2 d ≡ faded (pos 31130) (get_or taps 2 (pos 0))) (faded_zero (pos 31130))
     (get_or-map (faded (pos 31130)) taps 2 (pos 0))
 
 tap_after_lem : (p : Shape) (exc : List ℤ) (from : ℕ) (noise : ℤ) (k : ℕ) (v : Voice) (n : ℕ) → n < 32768 → get_or v.taps 2 (pos 0) ≡ negsuc n

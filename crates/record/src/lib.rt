@@ -1,10 +1,9 @@
-// A frame's 817 bytes, from its kind on, in a recorded stream's record and in a yard recording's.
+// A frame's 817 bytes, from its kind on, in a recorded stream's record and in a yard recording's, and what is heard of it.
 // Inner: every function but both_ways.
 #![tactic(auto)]
 
 ghost use Rattle.std.specs.Prelude.{◌≡◌, ◌+◌, ◌≤◌, length};
-ghost use Rattle.std.specs.Int.{w16};
-ghost use Rattle.le.specs.Bytes.{packed, with_bytes};
+ghost use Rattle.le.specs.Bytes.{with_bytes};
 ghost use Rattle.record.specs.Record.{is_received, params_in, frame_in, control_in, rows_in, lines_in, pulses_in};
 ghost use Rattle.record.specs.Recorded.{received, small_bytes, record_bytes};
 ghost use Rattle.record.specs.Claims.{WrittenIsRead, ReadIsWritten};
@@ -15,7 +14,7 @@ use le::{Word, put_bytes, put_words, words_at};
 // The count of a record's bytes.
 pub const SIZE: usize = 817;
 
-// A view of them; what is behind them is not read.
+// A view of a record's bytes; what is behind them is not read.
 #[derive(Clone, Copy)]
 pub struct Record<'a> {
     pub bytes: &'a [u8],
@@ -111,15 +110,6 @@ fn put_small(to: &mut [u8], at: usize, q: Params)
     put_bytes(to, at, &small);
 }
 
-// A row of coefficients, stored from place at on.
-#[tactic(auto, using(le::proofs::Packing::packed_all))]
-fn put_row(to: &mut [u8], at: usize, row: [i16; 16])
-    requires { at + 32 ≤ length to.old }
-    ensures { to.new ≡ with_bytes to.old at (packed w16 row 16) }
-{
-    put_words(to, at, &row);
-}
-
 // A received frame's bytes, stored from place at on, by its parts as document 01 and each caller have them.
 pub fn put_received(
     to: &mut [u8],
@@ -139,8 +129,8 @@ pub fn put_received(
     put_small(to, at, q);
     put_words(to, at + 5, &lags);
     put_words(to, at + 21, &gains);
-    put_row(to, at + 37, rows[0]);
-    put_row(to, at + 69, rows[1]);
+    put_words(to, at + 37, &rows[0]);
+    put_words(to, at + 69, &rows[1]);
     put_words(to, at + 101, &taps);
     c.ltp_scale_q14.put(to, at + 141);
     put_words(to, at + 145, &lines);

@@ -8,7 +8,7 @@ ghost use Rattle.refusal.specs.First.{first_of};
 ghost use Rattle.record.specs.Recorded.{lost, received};
 ghost use Rattle.recorder.specs.Writing.{head_bytes, frame_bytes, has_room, head_rows, begin_refusal, begin_of, append_of};
 
-use decoder::{Params, SilkDecoderControl, equals};
+use decoder::{Params, SilkDecoderControl};
 use judge::description;
 use le::{Word, low_byte, put_bytes, put_zeros};
 use record::put_received;
@@ -59,17 +59,17 @@ fn head_rows(bytes: &[u8], rate: i32, subframes: i32) -> Result<(), Refusal>
     ensures { result ≡ first_of (head_rows rate subframes bytes.now) }
 {
     refuse_if(!is_head(bytes), Refusal::Record)?;
+    let khz = i32::from(bytes[6]);
+    refuse_if(!(shape::is_rate(khz) & (rate == khz)), Refusal::Rate)?;
+    let nb_subfr = i32::from(bytes[7]);
     refuse_if(
-        !(shape::is_rate(i32::from(bytes[6])) & equals(rate, usize::from(bytes[6]))),
-        Refusal::Rate,
-    )?;
-    refuse_if(
-        !(shape::is_count(i32::from(bytes[7])) & equals(subframes, usize::from(bytes[7]))),
+        !(shape::is_count(nb_subfr) & (subframes == nb_subfr)),
         Refusal::Size,
     )
 }
 
 // Record n leads to record n + 1.
+#[tactic(auto, using(crate::proofs::Laws::room))]
 fn link(bytes: &mut [u8], n: usize)
     requires { has_room (length bytes.old) n ≡ true }
     ensures { bytes.new ≡ with_bytes bytes.old (1024 * n) (bytes_of 2 (pos (suc n))) }
@@ -77,7 +77,7 @@ fn link(bytes: &mut [u8], n: usize)
     ((n + 1) as u16).put(bytes, 1024 * n);
 }
 
-// One lost frame more behind frames that are written.
+// One lost frame more behind frames that are written. The buffer, their number and the shape stand apart: the C interface's caller holds them from call to call.
 pub fn append_lost(
     bytes: &mut [u8],
     frames: usize,

@@ -1,5 +1,5 @@
 -- Loops from the last of the records to the first, and what is behind a place.
-use Prim.Native.Nat.{ℕ, zero, suc, ◌+◌, ◌-◌, ◌≤◌}
+use Prim.Native.Nat.{ℕ, zero, suc, ◌+◌, ◌-◌, ◌*◌, ◌≤◌, ◌<◌}
 use mathlib.Core.Bool.{Bool, ◌&&◌}
 use mathlib.Core.Path.{◌≡◌, refl, ap, ◌∙◌}
 use mathlib.Core.List.{List, [], ◌∷◌, ◌++◌, map, reverse}
@@ -7,20 +7,22 @@ use native.Mathlib.Omega.{arith}
 use denote.Ref.{Bor}
 use lib.ListN.{length, get_or, take, drop, length-drop}
 use lib.Dec.{eqb}
-use lib.Seq.{take-suc, get_or-drop, take_all}
+use lib.Seq.{take-suc, get_or-drop}
 use Rattle.std.proofs.Math.Bool.{and-true}
-use Rattle.std.proofs.lemmas.List.{reverse-append, map-append}
+use Rattle.std.proofs.lemmas.List.{reverse-append, map-append, get_or_default}
 use Rattle.std.proofs.lemmas.List.Folds.{list_all-append}
 use Rattle.std.specs.List.{list_all}
-use Rattle.recording.specs.Frames.{zeros, is_frame, are_frames}
+use Rattle.recording.specs.Frames.{zeros, is_frame, are_frames, Inside}
 
 -- one record more
 pub back_more : (ys : List (Bor ℕ)) (x : Bor ℕ) → reverse (map (λ r. r.now) (ys ++ x ∷ [])) ≡ x.now ∷ reverse (map (λ r. r.now) ys)
 back_more ys x = ap reverse (map-append (λ r. r.now) ys (x ∷ [])) ∙ reverse-append (map (λ r. r.now) ys) (x.now ∷ [])
 
--- all that is behind a place
-pub rest : (at : ℕ) (b : List ℕ) → take (length b - at) (drop at b) ≡ drop at b
-rest at b = take_all (length b - at) (drop at b) (omega (arith, length-drop at b))
+-- a record that stands at a place of them lies within the bytes
+pub record_at : (b r : List ℕ) → Inside b r → (x k : ℕ) → k < length r → x ≡ get_or r k x → 1024 * x + 1024 ≤ length b
+record_at b r f x k h e =
+    let w : x ≡ get_or r k 0 = e ∙ get_or_default r k x 0 h in
+    omega (arith, w, f k)
 
 -- n bytes from a place on are zeros, each by itself
 pub zeros_each : (b : List ℕ) (at n : ℕ) → at + n ≤ length b → list_all (λ x. eqb x 0) (take n (drop at b)) ≡ zeros b at n

@@ -41,6 +41,7 @@ impl<'a> Frames<'a> {
 }
 
 // What is read of a recording: the first `frames` records are those of its frames, in order. No heap: an array of the most records that there are.
+// Not a field of chain's Route: readers would go one field deeper for each of its two, and `read` alone would be shorter.
 #[derive(Clone, Copy)]
 pub struct Recording {
     pub rate: i32,

@@ -8,9 +8,9 @@ ghost use Rattle.refusal.specs.First.{◌gives◌, first_of, earlier};
 
 use std::fmt;
 
-#[derive(Clone, Copy, Debug, PartialEq, Eq)]
+#[derive(Clone, Copy, Debug, PartialEq, Eq, PartialOrd, Ord)]
 pub enum Refusal {
-    Rate,
+    Rate = 1,
     Size,
     History,
     RunFull,
@@ -36,38 +36,14 @@ pub enum Refusal {
 }
 
 impl Refusal {
-    // A method and no `From`, since `u8::from` does not say that the number is the row's.
+    // `as u8` under a name, whose contract cites the definition: `code` and the programs that print a row go by it.
     pub fn number(self) -> u8
         ensures { result ≡ refusal_number self }
     {
-        match self {
-            Refusal::Rate => 1,
-            Refusal::Size => 2,
-            Refusal::History => 3,
-            Refusal::RunFull => 4,
-            Refusal::Signal => 5,
-            Refusal::Gain => 6,
-            Refusal::Lag => 7,
-            Refusal::Taps => 8,
-            Refusal::Line => 9,
-            Refusal::Pulses => 10,
-            Refusal::Speaker => 11,
-            Refusal::Length => 12,
-            Refusal::Order => 13,
-            Refusal::Squelch => 14,
-            Refusal::Weights => 15,
-            Refusal::Channels => 16,
-            Refusal::Place => 17,
-            Refusal::Post => 18,
-            Refusal::Waiting => 19,
-            Refusal::Chain => 20,
-            Refusal::Record => 21,
-            Refusal::Edition => 22,
-            Refusal::Limit => 23,
-        }
+        self as u8
     }
 
-    // A row's word, which `Display` writes: without a heap the text itself is to be had only here.
+    // For a caller of the library that wants the text without a formatter: inside, `Display` alone calls it.
     pub fn word(self) -> &'static str
         ensures { result.now ≡ codes (refusal_word self) }
     {
@@ -107,7 +83,7 @@ impl fmt::Display for Refusal {
     }
 }
 
-// A judgement as an exported function answers it: 0 where nothing is refused.
+// A judgement as an exported function answers it: 0 where nothing is refused. No From can be written for a Result, which is not of this crate.
 pub fn code(judged: Result<(), Refusal>) -> i32
     ensures { result ≡ pos (code_of judged) }
 {
@@ -132,6 +108,6 @@ pub fn earlier(a: Result<(), Refusal>, b: Result<(), Refusal>) -> Result<(), Ref
     match (a, b) {
         (Ok(()), _) => b,
         (_, Ok(())) => a,
-        (Err(r), Err(t)) => { if r.number() <= t.number() { a } else { b } }
+        (Err(r), Err(t)) => Err(r.min(t)),
     }
 }

@@ -4,6 +4,7 @@ use mathlib.Core.Path.{◌≡◌, refl, sym, ap, ◌∙◌}
 use mathlib.Core.Bool.{true, false, not, ◌&&◌}
 use mathlib.Core.List.{List, [], ◌∷◌, ◌++◌, append_assoc, append-nil}
 use native.Mathlib.Omega.{arith}
+use native.Mathlib.Numerals.{add-one}
 use borrow.Author.Tests.{eq-eqb, le-leb, le-ltb, ltb-false, not-false}
 use lib.Dec.{leb, ltb}
 use lib.IntN.{ℤ, pos}
@@ -15,6 +16,7 @@ use native.Mathlib.Nat.{mod-eq_of_lt}
 use Rattle.le.specs.Bytes.{bytes_of, with_bytes, same}
 use Rattle.std.specs.Prelude.{Ok, Err}
 use Rattle.std.proofs.lemmas.Bool.{and_parts}
+use Rattle.std.proofs.lemmas.List.{length_push}
 use Rattle.refusal.specs.First.{◌gives◌}
 use Rattle.refusal.specs.Refusals.{Judged, code_of, if_accepted}
 use Rattle.refusal.specs.declared.Refusal.TheVariants.{Rate, Size, Record}
@@ -127,9 +129,6 @@ module _ (khz nb : ℤ) (b : List ℕ) (n : ℕ) (x : Recorded) (xs : List Recor
       go (Ok u) e = refl
       go (Err r) e = e
 
-snoc_length : (ys : List Recorded) (x : Recorded) → suc (length ys) ≡ length (ys ++ x ∷ [])
-snoc_length ys x = omega (arith, length-append ys (x ∷ []))
-
 module _ (khz nb : ℤ) (e : is_rate khz ≡ true) (f : is_count nb ≡ true) where
   -- a frame that is taken, and those behind it
   next : (ys : List Recorded) (d : List ℕ) (x : Recorded) (xs : List Recorded) → code_of (append_refusal khz nb (recording_bytes khz nb ys ++ d) (length ys) x) ≡ 0
@@ -137,7 +136,7 @@ module _ (khz nb : ℤ) (e : is_rate khz ≡ true) (f : is_count nb ≡ true) wh
   next ys d x xs a =
       let t = takes khz nb e f ys d x a in
       goes_on khz nb (recording_bytes khz nb ys ++ d) (length ys) x xs a
-      ∙ (λ i. appends_of khz nb (appended-more khz nb ys d x t.enough i) (snoc_length ys x i) xs)
+      ∙ (λ i. appends_of khz nb (appended-more khz nb ys d x t.enough i) (sym (length_push ys x ∙ add-one (length ys)) i) xs)
 
   pub record Taken (ys xs : List Recorded) (d : List ℕ) : Type 0 where
     pub few : length ys + length xs ≤ 59
@@ -152,10 +151,10 @@ module _ (khz nb : ℤ) (e : is_rate khz ≡ true) (f : is_count nb ≡ true) wh
       let r = was-taken khz nb (recording_bytes khz nb ys ++ d) (length ys) x xs a in
       let t = takes khz nb e f ys d x r in
       let n = next ys d x xs r in
-      let ih = all_taken (ys ++ x ∷ []) xs (drop 1024 d) (omega (arith, t.few, snoc_length ys x)) (sym (ap (λ (k : Left). code_of k.judged) n) ∙ a) in
+      let ih = all_taken (ys ++ x ∷ []) xs (drop 1024 d) (omega (arith, t.few, length_push ys x)) (sym (ap (λ (k : Left). code_of k.judged) n) ∙ a) in
       let m : 1024 + 1024 * length xs ≡ 1024 * suc (length xs) = omega arith in
       record {
-        few = omega (arith, ih.few, snoc_length ys x);
+        few = omega (arith, ih.few, length_push ys x);
         rows = one_of_two (described (shape khz nb) x) (described_all (shape khz nb) xs) (λ u. code_of u ≡ 0) t.rows ih.rows;
         bytes =
             ap (λ (k : Left). k.bytes) n ∙ ih.bytes
@@ -173,7 +172,7 @@ module _ (khz nb : ℤ) (e : is_rate khz ≡ true) (f : is_count nb ≡ true) wh
       let a : code_of (append_refusal khz nb (recording_bytes khz nb ys ++ d) (length ys) x) ≡ 0 =
       ap code_of (taken khz nb e f ys d x (omega arith) (omega arith) h.0) ∙ c.0 in
       ap (λ (k : Left). code_of k.judged) (next ys d x xs a)
-      ∙ takes_all (ys ++ x ∷ []) xs (drop 1024 d) (omega (arith, snoc_length ys x)) (omega (arith, length-drop 1024 d)) h.1 c.1
+      ∙ takes_all (ys ++ x ∷ []) xs (drop 1024 d) (omega (arith, length_push ys x)) (omega (arith, length-drop 1024 d)) h.1 c.1
 
 -- the beginning
 module _ (khz nb : ℤ) (b : List ℕ) where

@@ -5,7 +5,7 @@ use decoder::{Frame, Params, Signal, SilkDecoderControl, SilkDecoderState, set_u
 use input::read_full;
 use line::{Line, line_of};
 use refusal::Refusal;
-use std::io;
+use std::{array, io};
 use word::{bits32, low16};
 
 // What is asked about a case, in the order of its numbers.
@@ -33,7 +33,7 @@ impl From<i32> for Asked {
             6 => Asked::SetUp,
             7 => Asked::Played,
             8 => Asked::PlcLost,
-            // 5
+            // 5, and any other number: a case names none, and a program that may fail would have to say how.
             _ => Asked::Cng,
         }
     }
@@ -64,7 +64,7 @@ fn held(khz: i32, nb_subfr: i32) -> Result<SilkDecoderState, Refusal> {
     Ok(s)
 }
 
-// A number as one of 8 bits; one outside them counts as -1, which row 5 refuses. layout reads a frame's numbers by the same line,
+// A number as one of 8 bits; one that 8 bits don't hold counts as -1, which row 5 refuses. layout reads a frame's numbers by the same line,
 // but rows judges without layout and the crates below it.
 fn small(n: i32) -> i8 {
     i8::try_from(n).unwrap_or(-1)
@@ -198,26 +198,22 @@ impl Case {
             Asked::SetUp => {
                 set_up_with(khz, nb_subfr, self.state.settings)?;
             }
-            Asked::Played => return Ok(played(khz, nb_subfr, self.output)),
+            // No case is due -1.
+            Asked::Played => return Ok(played(khz, nb_subfr, self.output).unwrap_or(-1)),
         }
         Ok(0)
     }
 }
 
-// How many samples of an output are in the part that is played: its first ones, or -1.
-fn played(khz: i32, nb_subfr: i32, lent: usize) -> i32 {
-    let mut places = [0i16; 400];
-    for (place, n) in places.iter_mut().zip(0..400) {
-        *place = n;
-    }
-    let Some(output) = places.get(..lent) else {
-        return -1;
-    };
+// How many samples of an output are in the part that is played, if it is the output's first ones.
+fn played(khz: i32, nb_subfr: i32, lent: usize) -> Option<i32> {
+    let places: [i16; 400] = array::from_fn(|n| n as i16);
+    let output = places.get(..lent)?;
     let part = decoder::played(khz, nb_subfr, output);
     if !output.starts_with(part) {
-        return -1;
+        return None;
     }
-    i32::try_from(part.len()).unwrap_or(-1)
+    i32::try_from(part.len()).ok()
 }
 
 // A whole frame of one of ten numbers brings the last two, of another the shape that is held. Set-up and the played part hold no shape of the case.
@@ -277,6 +273,7 @@ fn main(rt: HostRuntime) -> io::Result<()> {
         passed: 0,
         failed: 0,
     };
+    // load_cases has the same loop: a function of both would take a closure that prints and may fail, and spare three lines.
     for bytes in text[..n].split_inclusive(|b| *b == b'\n') {
         if bytes.ends_with(b"\n") {
             t.take(&rt, line_of(bytes))?;

@@ -10,6 +10,7 @@ unfoldable pub digits : ℕ → ℕ → List ℕ
 digits zero n = []
 digits (suc f) n = cond (ltb n 10) ((48 + n) ∷ []) (digits f (n / 10) ++ (48 + n % 10) ∷ [])
 
+-- of every n: the library's `decimal` has at most 64 digits, and NoTwo speaks of every answer
 unfoldable pub decimal : ℕ → List ℕ
 decimal n = digits (suc n) n
 

@@ -36,6 +36,7 @@ fn with_letter(mut s: Sentence, b: u8) -> Sentence
     s
 }
 
+// Digits by hand: `write!` promises them only where it succeeds, and a buffer of crate itoa would be the one crate from outside that a board links.
 fn with_decimal(s: Sentence, n: u32) -> Sentence
     requires { s.len + length (decimal n) ≤ 64 }
     ensures { result ≡ with s (decimal n) }

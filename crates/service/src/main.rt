@@ -18,10 +18,9 @@ fn answered(line: Result<Entry, Bad>) -> Result<Sentence, Bad> {
     let a = last.a;
     // All of a line's numbers but the edition are coefficients.
     let order = last.count.saturating_sub(1);
-    match silk_lpc_inverse_pred_gain_under(&a[1..], order, i32::from(a[0])) {
-        Ok(answer) => Ok(sentence_of(answer)),
-        Err(_) => Err(Bad),
-    }
+    silk_lpc_inverse_pred_gain_under(&a[1..], order, i32::from(a[0]))
+        .map(sentence_of)
+        .map_err(|_| Bad)
 }
 
 fn tell(out: &mut impl Write, line: Result<Entry, Bad>) -> io::Result<()> {
@@ -32,10 +31,6 @@ fn tell(out: &mut impl Write, line: Result<Entry, Bad>) -> io::Result<()> {
         }
         Err(Bad) => bad_line(out),
     }
-}
-
-fn grown(line: Result<Entry, Bad>, b: u8) -> Result<Entry, Bad> {
-    fed(line?, b)
 }
 
 // The line that is being read, if a byte of it was.
@@ -49,7 +44,7 @@ fn read_on(
         tell(out, line)?;
         return Ok(None);
     }
-    Ok(Some(grown(line, b)))
+    Ok(Some(line.and_then(|e| fed(e, b))))
 }
 
 fn main(rt: HostRuntime) -> io::Result<()> {

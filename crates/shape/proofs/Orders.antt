@@ -14,10 +14,6 @@ pub size_two : (o : Order) → (size o ≡ 10) ⊎ (size o ≡ 16)
 size_two Ten = inl refl
 size_two Sixteen = inr refl
 
-pub size_low : (o : Order) → 10 ≤ size o
-size_low Ten = lit≤ tt
-size_low Sixteen = lit≤ tt
-
 pub size_high : (o : Order) → size o ≤ 16
 size_high Ten = lit≤ tt
 size_high Sixteen = lit≤ tt

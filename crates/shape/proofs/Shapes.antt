@@ -10,6 +10,7 @@ use lib.IntN.{ℤ, pos, nat_abs}
 use lib.Signed.{non_neg}
 use mir.Syntax.{w32, w64}
 use mir.Val.{of_z, to_z, Fits, SFits}
+use Rattle.std.proofs.lemmas.Bool.{or_cases}
 use Rattle.word.proofs.Order.{key, isnt, eq_ℤ_true}
 use Rattle.word.specs.Int.{eq_ℤ}
 use Rattle.shape.specs.Shape.{order_of, is_rate, is_count, rate_of, count_of}
@@ -52,8 +53,7 @@ pub data Counts (n : ℕ) : Type 0 where
 
 -- one of two tests
 pub either : (a b : Bool) → (a || b) ≡ true → (a ≡ true) ⊎ (b ≡ true)
-either true b e = inl refl
-either false b e = inr e
+either = or_cases
 
 rate_of-number : (z : ℤ) → is_rate z ≡ true → (z ≡ pos 8) ⊎ (z ≡ pos 12) ⊎ (z ≡ pos 16)
 unfolding is_rate

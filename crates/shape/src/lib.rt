@@ -6,6 +6,7 @@ ghost use Rattle.std.specs.Prelude.{◌≡◌, ◌*◌, ◌⊎◌, true, pos};
 ghost use Rattle.shape.specs.Shape.{shape, frame_length, order_of, is_rate, is_count, rate_of, count_of};
 ghost use Rattle.shape.specs.Order.{size, order};
 
+// Document 01 names this form: constants and functions of a Rate type, no self. A number that is no rate has 0, which an enum of the rates could not answer.
 #[derive(Clone, Copy)]
 pub struct Rate;
 
@@ -98,21 +99,18 @@ impl Rate {
     }
 }
 
-// The order of a short-term filter.
+// The order of a short-term filter. Not From and TryFrom: an order has more numbers than its size, and TryFrom would need an error type that nobody reads.
 #[derive(Clone, Copy, Debug, PartialEq, Eq)]
 pub enum Order {
-    Ten,
-    Sixteen,
+    Ten = 10,
+    Sixteen = 16,
 }
 
 impl Order {
     pub fn size(self) -> usize
         ensures { result ≡ size self }
     {
-        match self {
-            Order::Ten => 10,
-            Order::Sixteen => 16,
-        }
+        self as usize
     }
 
     // For callers whose number is an order: from `of` they would unwrap an Option and prove that it is Some, which this `requires` says.
@@ -149,10 +147,7 @@ impl FrameShape {
     pub fn order(self) -> Order
         ensures { size result ≡ order_of (rate_of self.fs_khz) }
     {
-        match Rate::lpc_order(self.fs_khz) {
-            Rate::LPC_ORDER_16 => Order::Sixteen,
-            _ => Order::Ten,
-        }
+        Order::from_size(Rate::lpc_order(self.fs_khz))
     }
 }
 

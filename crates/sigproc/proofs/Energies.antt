@@ -144,7 +144,3 @@ module _ (x : List ℤ) (h : Bounded 32768 x) (least : 1 ≤ length x) (most : l
 
   pub shift_small : energy_shift x ≤ 10
   shift_small = (bounds x least most (energy_le x (first_shift x) h)).1
-
-  pub sum_sqr_shift_range : (e s : ℕ) × (sum_sqr_shift x ≡ record { energy = pos e; shift = pos s }) × (e < 2 ^ 29) × (s ≤ 10)
-  unfolding sum_sqr_shift
-  sum_sqr_shift_range = (energy_at x (energy_shift x), energy_shift x, refl, energy_small, shift_small)

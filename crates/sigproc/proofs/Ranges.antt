@@ -29,12 +29,6 @@ update_out_buf-fits ob mem xq h k =
     let n = length xq in
     put_at-fits (drop n ob ++ take n ob) (mem - n) xq (append-fits (drop n ob) (take n ob) (drop-fits n ob h) (take-fits n ob h)) k
 
--- ---- bandwidth expansion
-pub factor-fits : (chirp : ℤ) → SFits w32 chirp → (j : ℕ) → SFits w32 (factor chirp j)
-unfolding factor
-factor-fits chirp h zero = h
-factor-fits chirp h (suc j) = wrap-fits w32 _
-
 pub shrunk-fits : (f x : ℤ) → SFits w16 (shrunk f x)
 unfolding shrunk
 shrunk-fits f x = wrap-fits w16 _
@@ -49,24 +43,9 @@ pub residual-fits : (x a : List ℤ) (d i : ℕ) → SFits w16 (residual x a d i
 unfolding residual
 residual-fits x a d i = sat16-fits _
 
-pub analysis-fits : (x a : List ℤ) (d : ℕ) → AllFit w16 (analysis x a d)
-unfolding analysis
-analysis-fits x a d = tabulate-fits (length x) _ (λ i l. cond_fits (ltb i d) (zero_fits w16) (residual-fits x a d i))
-
 pub length-analysis : (x a : List ℤ) (d : ℕ) → length (analysis x a d) ≡ length x
 unfolding analysis
 length-analysis x a d = length-tabulate (length x) _
-
--- ---- prediction and synthesis
-pub ltp_prediction-fits : (past taps : List ℤ) (p j : ℕ) → SFits w32 (ltp_prediction past taps p j)
-unfolding ltp_prediction
-ltp_prediction-fits past taps p zero = record { sfits = omega arith }
-ltp_prediction-fits past taps p (suc j) = smlawb-fits _ _ _
-
-pub prediction-fits : (s a : List ℤ) (d at j : ℕ) → d ≤ 16 → SFits w32 (prediction s a d at j)
-unfolding prediction
-prediction-fits s a d at zero h = record { sfits = omega arith }
-prediction-fits s a d at (suc j) h = smlawb-fits _ _ _
 
 pub synthesised-fits : (u p : ℤ) → SFits w32 (synthesised u p)
 unfolding synthesised

@@ -6,7 +6,7 @@ use Rattle.word.specs.Size.{size_at, sizes}
 use Rattle.word.proofs.Parts.{P, N, add_parts, mul-parts, div_parts}
 use Rattle.word.proofs.Words.{wrap_id}
 use Rattle.word.proofs.Sizes.{abs-parts, abs-mul, abs-wrap, abs-fits, abs_round, fits-abs}
-use Rattle.word.proofs.Lists.{set_le, set_other}
+use Rattle.word.proofs.Lists.{set_le}
 use Rattle.macros.specs.Fixed.{round_shift}
 use Rattle.sigproc.specs.Expand.{factor, shrunk, bwexpander}
 
@@ -102,7 +102,7 @@ expand_le a (suc d) i h = go (λ k. expand_le a d i k) (ltb i d) refl
     x = shrunk (factor (pos 64881) d) (get_or a d (pos 0))
 
     go : (i < d → 65536 * size_at b i ≤ 64881 * size_at a i + 32768) → (t : Bool) → ltb i d ≡ t → 65536 * size_at (set b d x) i ≤ 64881 * size_at a i + 32768
-    go ih true t = let k = ltb-true i d t in rw (set_other b i d x k) (ih k)
+    go ih true t = let k = ltb-true i d t in rw (get_or-set_other b d i x (pos 0) (λ e. omega (arith, e, k))) (ih k)
     go ih false t =
         let k = ltb-false i d t in
         let e : d ≡ i = omega arith in

@@ -2,9 +2,8 @@
 // Inner: every function.
 #![tactic(auto)]
 
-ghost use Rattle.std.specs.Prelude.{◌≡◌, ◌+◌, ◌-◌, ◌*◌, ◌%◌, ◌^◌, ◌<◌, ◌≤◌, ◌++◌, map, length, take, drop, ◌*ℤ◌, unsigned_abs};
-ghost use Rattle.word.specs.Int.{wrap32};
-ghost use Rattle.macros.specs.Fixed.{round_shift, smulwb};
+ghost use Rattle.std.specs.Prelude.{◌≡◌, ◌+◌, ◌-◌, ◌*◌, ◌%◌, ◌^◌, ◌<◌, ◌≤◌, ◌++◌, map, length, take, drop, unsigned_abs};
+ghost use Rattle.macros.specs.Fixed.{smulwb};
 ghost use Rattle.shape.specs.Order.{size};
 ghost use Rattle.sigproc.specs.Place.{put_at, update_out_buf};
 ghost use Rattle.sigproc.specs.Expand.{shrunk, bwexpander};
@@ -13,13 +12,13 @@ ghost use Rattle.sigproc.specs.Energy.{energy_at, sum_sqr_shift};
 ghost use Rattle.sigproc.specs.Synthesis.{ltp_prediction, prediction, synthesised, synthesis, played_q10, played};
 
 use macros::{
-    silk_add_sat32, silk_lshift_sat32, silk_rshift_round, silk_rshift_round64, silk_smlawb,
-    silk_smulbb, silk_smull, silk_smulwb, silk_smulww,
+    mul_q, silk_add_sat32, silk_lshift_sat32, silk_rshift_round, silk_smlawb, silk_smulbb,
+    silk_smulwb, silk_smulww,
 };
 use shape::Order;
-use word::{add32, low16, low32, mul16, sat16, shl32, shr32, sub32, wide16};
+use word::{add32, low16, map_into, mul16, sat16, shl32, shr32, sub32, wide16};
 
-// All of src, stored from place at on.
+// All of src, stored from place at on. le's `put_bytes` does this for bytes: each crate is without the other, and cites a definition of its own.
 #[tactic(auto, unfolding(crate::specs::Place::put_at))]
 pub fn copy_at<T: Copy>(dst: &mut [T], at: usize, src: &[T])
     requires { at + length src.now ≤ length dst.old }
@@ -53,18 +52,10 @@ pub fn update_out_buf(ob: [i16; 480], mem: usize, xq: &[i16]) -> [i16; 480]
     new
 }
 
-// The product of two numbers in Q16, rounded.
-#[tactic(auto, using(macros::proofs::Kept::words), unfolding(macros::specs::Fixed::rshift_round64))]
-fn round_q16(a: i32, b: i32) -> i32
-    ensures { result ≡ wrap32 (round_shift (a *ℤ b) 16) }
-{
-    low32(silk_rshift_round64(silk_smull(a, b), 16))
-}
-
 fn shrunk(f: i32, x: i16) -> i16
     ensures { result ≡ shrunk f x }
 {
-    low16(round_q16(f, wide16(x)))
+    low16(mul_q(f, wide16(x), 16))
 }
 
 // Any d up to 16, as the Rust's: an Order would serve 10 and 16 alone.
@@ -75,7 +66,7 @@ pub fn silk_bwexpander(ar: &mut [i16; 16], d: usize, chirp_q16: i32)
     let mut f = chirp_q16;
     for a in ar[..d].iter_mut() {
         *a = shrunk(f, *a);
-        f = round_q16(f, chirp_q16);
+        f = mul_q(f, chirp_q16, 16);
     }
 }
 
@@ -85,7 +76,7 @@ fn products(x: &[i16], b: &[i16], i: usize) -> i32
     ensures { result ≡ products x.now b.now i (length b.now) }
 {
     let mut sum = 0;
-    // By j, as the definition: a zip with the samples reversed would have the rests of two iterators in its invariant.
+    // By j, as the definition: over a zip with `x[..i].iter().rev()` a turn's two elements are known only by what both iterators have left.
     for (j, c) in b.iter().enumerate() {
         sum = add32(sum, silk_smulbb(wide16(x[i - 1 - j]), wide16(*c)));
     }
@@ -100,14 +91,14 @@ fn residual(x: &[i16], b: &[i16], i: usize) -> i16
     sat16(silk_rshift_round(sub32(shl32(wide16(x[i]), 12), products(x, b, i)), 12))
 }
 
+// As long as its input by a clause, here and in the three maps below: a struct of both slices would be made for one call.
 fn analysis_filter<const ORDER: usize>(out: &mut [i16], input: &[i16], b: &[i16; 16])
     requires { (ORDER ≤ 16) × (ORDER ≤ length input.now) × (length out.old ≡ length input.now) }
     ensures { out.new ≡ analysis input.now b.now ORDER }
 {
     out[..ORDER].fill(0);
-    // Not `windows`: the definition has the residual at a place of the whole input, and that place is written here too.
-    for i in ORDER..input.len() {
-        out[i] = residual(input, &b[..ORDER], i);
+    for (i, x) in out[ORDER..].iter_mut().enumerate() {
+        *x = residual(input, &b[..ORDER], ORDER + i);
     }
 }
 
@@ -126,10 +117,7 @@ pub fn weigh(to: &mut [i32], residual: &[i16], inverse: i32)
     requires { length to.old ≡ length residual.now }
     ensures { to.new ≡ map (smulwb inverse) residual.now }
 {
-    // Not a zip: after one over `iter_mut` only the length of `to` is known.
-    for (i, r) in residual.iter().enumerate() {
-        to[i] = silk_smulwb(inverse, wide16(*r));
-    }
+    map_into(residual, to, |r| silk_smulwb(inverse, wide16(r)));
 }
 
 // The energy of samples: energy times 2 ^ shift.
@@ -146,7 +134,7 @@ fn square(a: i16) -> u32
     mul16(a, a) as u32
 }
 
-// Sums that leave the word wrap; for the shifts that silk_sum_sqr_shift takes none does.
+// Sums that leave the word wrap; none wraps at the shifts that silk_sum_sqr_shift takes.
 fn energy_at(x: &[i16], s: u32) -> u32
     requires { s < 32 }
     ensures { (result ≡ energy_at x.now s % 2 ^ 32) × (2 ^ s * energy_at x.now s ≤ 2 ^ 30 * length x.now) }
@@ -211,7 +199,7 @@ fn synthesised(u: i32, p: i32) -> i32
     silk_add_sat32(u, silk_lshift_sat32(p, 4))
 }
 
-// A copy of the coefficients can stay in registers.
+// A copy of the coefficients can stay in registers. That 16 places lie in front is a clause: the buffer is a part of a caller's, which no type holds.
 fn synthesis_of_order<const ORDER: usize>(buf: &mut [i32], a: &[i16; 16])
     requires { (1 ≤ ORDER) × (ORDER ≤ 16) × (16 ≤ length buf.old) }
     ensures { buf.new ≡ synthesis (take 16 buf.old) (drop 16 buf.old) a.now ORDER (length buf.old - 16) }
@@ -247,8 +235,5 @@ pub fn scale_out(xq: &mut [i16], s: &[i32], gain_q16: i32)
     ensures { xq.new ≡ map (played gain_q16) s.now }
 {
     let gain_q10 = shr32(gain_q16, 6);
-    // Not a zip: after one over `iter_mut` only the length of xq is known.
-    for (i, v) in s.iter().enumerate() {
-        xq[i] = played_sample(*v, gain_q10);
-    }
+    map_into(s, xq, |v| played_sample(v, gain_q10));
 }

@@ -28,16 +28,6 @@ refused left lent e h k =
 pub taken : {A : Type 0} {x : A} {a : Result A Refusal} {after : Slices} (left : A → Slices) (lent : Slices) → Ok x ≡ a → after ≡ left x → record { judged = Ok tt; after = after } ≡ leaves a left lent
 taken left lent e k = (λ i. record { judged = Ok tt; after = k i }) ∙ λ i. leaves (e i) left lent
 
--- a row that a call answers is the one it is judged by
-judged_of : {A : Type 0} (j : Judged) (x : A) (left : A → Slices) (lent : Slices) → j ≡ (leaves (judged_by j x) left lent).judged
-judged_of (Ok u) x left lent = refl
-judged_of (Err r) x left lent = refl
-
--- a frame that is judged by its slices' lengths is refused as one that is played
-pub judged_alike : (m : Slices) → refusal_in m.words m.halves m.frame m.coefs (length m.pulses) (length m.output) ≡ (answered (frame_in m.frame) m).judged
-unfolding refusal_in answered frame_answer frame_refusal
-judged_alike m = judged_of _ _ _ m
-
 -- the frame that the slices hold is taken where no row refuses it
 pub is_taken : {f : Frame} {u : Unit {0}} (m : Slices) → f ≡ frame_in m.frame → Ok u ≡ refusal_in m.words m.halves m.frame m.coefs (length m.pulses) (length m.output) → IsTaken f m
 unfolding refusal_in frame_refusal

@@ -1,4 +1,5 @@
 // The whole frame on a state and a frame that lie in lent slices, or in parts of them.
+// The lent slices stand apart: a struct of them would lend each `&mut` on again, and each contract would name all of them as it does now.
 // Inner: every function.
 #![tactic(auto)]
 

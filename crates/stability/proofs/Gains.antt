@@ -107,8 +107,3 @@ inverse_gain-by limit e a = number (stability_by limit e a) (whole_ranged limit 
 pub inverse_gain_lem : (e : ℤ) (a : List ℤ) → (n : ℕ) × (inverse_gain (stability e a) ≡ pos n) × (n ≤ 2 ^ 30) × ((n ≡ 0) ⊎ (107374 ≤ n))
 unfolding stability
 inverse_gain_lem e a = inverse_gain-by a_limit e a
-
-pub inverse_gain-fits : (e : ℤ) (a : List ℤ) → SFits w32 (inverse_gain (stability e a))
-inverse_gain-fits e a =
-    let g = inverse_gain_lem e a in
-    rw g.1 (abs-fits (pos g.0) (omega (arith, g.2)))

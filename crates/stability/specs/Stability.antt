@@ -3,7 +3,7 @@ use Rattle.std.specs.Prelude.{ℕ, zero, suc, ◌+◌, ◌-◌, ◌^◌, Bool, t
 use Rattle.std.specs.Int.Signed.{lt_z, le_z}
 use Rattle.word.specs.Int.{eq_ℤ, wrap32}
 use Rattle.word.specs.Tabulate.{tabulate}
-use Rattle.macros.specs.Fixed.{smmul, clz32, rshift_round64}
+use Rattle.macros.specs.Fixed.{smmul, clz32, rshift_round64, mul_q}
 use Rattle.macros.specs.Quotient.{inverse32_varq}
 use Rattle.edition.specs.Edition.{older, newer, is_edition}
 use Rattle.refusal.specs.First.{◌gives◌, first_of}
@@ -52,10 +52,6 @@ next_gain rc g = wrap32 (smmul g (rc_mult1 rc) *ℤ pos (2 ^ 2))
 -- how many bits a number of 32 has without its sign
 unfoldable pub bit_length : ℤ → ℕ
 bit_length m = 32 - clz32 (wrap32 (pos (nat_abs m)))
-
--- a product rounded by q places
-unfoldable pub mul_q : ℤ → ℤ → ℤ → ℤ
-mul_q a b q = wrap32 (rshift_round64 (a *ℤ b) q)
 
 -- the inverse of m (Q30), with as many more places as m has bits
 unfoldable pub rc_mult2 : ℤ → ℤ

@@ -5,13 +5,13 @@
 ghost use Rattle.std.specs.Prelude.{◌≡◌, ◌||◌, ◌++◌, map, ◌-◌, ◌≤◌, ◌<◌, ◌^◌, pos, ◌*ℤ◌, length, take, drop, replicate};
 ghost use Rattle.word.specs.Int.{eq_ℤ, wrap32};
 ghost use Rattle.edition.specs.Edition.{older};
-ghost use Rattle.stability.specs.Stability.{a_limit, reflection, rc_mult1, next_gain, bit_length, mul_q, rc_mult2, step_down, stepped, next_coefficients, fits32, all_fit, step, steps, total, stability, inverse_gain, test_refusal, tested_under, tested, answer_number, answer_value};
+ghost use Rattle.stability.specs.Stability.{a_limit, reflection, rc_mult1, next_gain, bit_length, rc_mult2, step_down, stepped, next_coefficients, fits32, all_fit, step, steps, total, stability, inverse_gain, test_refusal, tested_under, tested, answer_number, answer_value};
 ghost use Rattle.stability.specs.Limit.{SameAnswer};
 
 use edition::{NEWER, OLDER, is_edition};
-use macros::{silk_clz32, silk_inverse32_varq, silk_rshift_round64, silk_smmul, silk_smull};
+use macros::{mul_q, silk_clz32, silk_inverse32_varq, silk_rshift_round64, silk_smmul, silk_smull};
 use refusal::{Refusal, refuse_if};
-use word::{abs32, add32, low32, neg32, shl32, sub32, wide};
+use word::{abs32, add32, low32, map_into, neg32, shl32, sub32, wide};
 
 const A_LIMIT: u32 = 16773022;
 
@@ -84,13 +84,6 @@ fn bit_length(m: i32) -> i32
     ensures { result ≡ pos (bit_length m) }
 {
     sub32(32, silk_clz32(abs32(m)))
-}
-
-#[tactic(auto, using(macros::proofs::Kept::words), unfolding(crate::specs::Stability::mul_q))]
-pub fn mul_q(a: i32, b: i32, q: i32) -> i32
-    ensures { result ≡ mul_q a b q }
-{
-    low32(silk_rshift_round64(silk_smull(a, b), q))
 }
 
 fn fits32(x: i64) -> bool
@@ -193,10 +186,9 @@ fn in_qa(c: Coefs) -> [i32; 16]
     ensures { result ≡ map (λ x. x *ℤ pos (2 ^ 12)) c.entry.a_q12.now ++ drop (length c.entry.a_q12.now) (replicate 16 (pos 0)) }
 {
     let mut a_qa = [0; 16];
-    // Not a zip: after one over `iter_mut` only the length of a_qa is known.
-    for (k, x) in c.a_q12.iter().enumerate() {
-        a_qa[k] = shl32(i32::from(*x), 12);
-    }
+    map_into(c.a_q12, &mut a_qa[..c.a_q12.len()], |x| {
+        shl32(i32::from(x), 12)
+    });
     a_qa
 }
 

@@ -19,7 +19,7 @@ use plc::conceal::silk_plc_lost;
 use plc::update::silk_plc_received;
 use refusal::Refusal;
 
-// A call's new state stored. Not `?` in its callers, which copies the state.
+// A call's new state stored. By reference, since `?` on the answer itself copies the state.
 #[inline(always)]
 fn stored(
     answer: &Result<SilkDecoderState, Refusal>,
@@ -29,13 +29,8 @@ fn stored(
         ≡ stored_on answer.now (slices state.old.words.now state.old.halves.now [] [] [] []) }
     ensures same_reference { SameState state.old state.new }
 {
-    match answer {
-        Ok(s) => {
-            state.put(s);
-            Ok(())
-        }
-        Err(refusal) => Err(*refusal),
-    }
+    state.put(answer.as_ref().map_err(|r| *r)?);
+    Ok(())
 }
 
 pub fn set_up(
@@ -69,7 +64,7 @@ pub fn core(
     let c = numbers.control(coefs.coefs);
     let rows = coefs.rows();
     let answer = silk_decode_core(s, q, c, rows, pulses, output);
-    // Not `?`, which copies the answer, nor `stored`, since lags and taps are new too.
+    // Not `stored`, since lags and taps are new too; nor its `?`, whose proof goes through four calls of the library, where an arm tells the answer.
     match &answer {
         Ok(a) => {
             put_answer(a, state, frame);
@@ -110,7 +105,7 @@ pub fn plc_lost(
     let numbers = FrameNumbers { numbers: frame };
     let c = numbers.tapless();
     let answer = silk_plc_lost(s, c, output);
-    // Not `?`, which copies the answer, nor `stored`, since the lags are new too.
+    // Not `stored`, since the lags are new too; nor its `?`, as in core.
     match &answer {
         Ok(concealed) => {
             state.put(&concealed.state);

@@ -1,5 +1,5 @@
 -- A stream's first 16 bytes.
-use Rattle.std.specs.Prelude.{ℕ, ◌+◌, ◌*◌, Bool, cond, ◌&&◌, List, eqb, ltb, pos, get_or, Result, Ok, Err, codes}
+use Rattle.std.specs.Prelude.{ℕ, ◌+◌, ◌*◌, ◌≡◌, ⊤, Bool, cond, ◌&&◌, List, eqb, ltb, pos, length, take, drop, get_or, Option, Some, None, Result, Ok, Err, codes}
 use Rattle.shape.specs.Shape.{shape, frame_length, is_rate, is_count}
 use Rattle.le.specs.Bytes.{unsigned_at, same}
 use Rattle.stream.specs.declared.Head.{Head}
@@ -27,3 +27,8 @@ opened_of h got =
     (Err (Subframes (get_or h 9 0))))
     (Err (Rate (get_or h 8 0))))
     (Err Foreign))
+
+-- a header was taken from a reader, where its bytes are known: the first 16, or all of fewer
+abbrev pub Opened : Option (List ℕ) → Option (List ℕ) → Result Head Unplayed → Type 0
+Opened None new r = ⊤
+Opened (Some xs) new r = (r ≡ opened_of (take 16 xs) (length (take 16 xs))) × (new ≡ Some (drop 16 xs))

@@ -7,10 +7,10 @@ ghost use Rattle.std.specs.Int.{w16};
 ghost use Rattle.std.specs.IoError.{error_kind};
 ghost use Rattle.le.specs.Bytes.{bytes_of, packed};
 ghost use Rattle.stream.specs.Wav.{wav_header};
-ghost use Rattle.stream.specs.Header.{is_stream, samples_of, opened_of};
+ghost use Rattle.stream.specs.Header.{is_stream, samples_of, opened_of, Opened};
 ghost use Rattle.stream.specs.Records.{sample_bytes, Taken};
 
-use input::fill;
+use input::{fill, read_full};
 use le::{Word, put_bytes, put_words, stands_at};
 use std::fmt;
 use std::io::{self, ErrorKind, Read};
@@ -28,6 +28,7 @@ pub fn samples_bytes(samples: &[i16; 320]) -> [u8; 640]
 const START: [u8; 44] =
     *b"RIFF\0\0\0\0WAVEfmt \x10\0\0\0\x01\0\x01\0\0\0\0\0\0\0\0\0\x02\0\x10\0data\0\0\0\0";
 
+// Of more than 32 bits the low four bytes stand, which `u32::put` would ask to fit.
 fn put4(h: [u8; 44], at: usize, n: u64) -> [u8; 44]
     requires { at + 4 ≤ 44 }
     ensures { result ≡ take at h ++ bytes_of 4 (pos n) ++ drop (at + 4) h }
@@ -175,6 +176,16 @@ fn padded(kind: u8, rest: &[u8]) -> [u8; 817]
 }
 
 impl Head {
+    // The header of the stream that an input begins with.
+    pub fn read<R: Read>(input: &mut R) -> io::Result<Result<Head, Unplayed>>
+        ensures bytes { IfOk result (λ h. Opened (R.remaining input.old) (R.remaining input.new) h) }
+        ensures retried { IfErr result (λ e. error_kind e ≢ ErrorKind.Interrupted) }
+    {
+        let mut header = [0; 16];
+        let got = read_full(input, &mut header)?;
+        Ok(read_header(&header, got))
+    }
+
     // The bytes of a frame's samples.
     pub fn sample_bytes(self) -> usize
         ensures { (result ≡ sample_bytes self) × (result ≤ 640) }
@@ -207,11 +218,4 @@ impl Head {
         }
         Ok(Ok(padded(kind, &rest[..size])))
     }
-}
-
-// A frame of zeros.
-pub fn silence() -> [i16; 320]
-    ensures { result ≡ replicate 320 (pos 0) }
-{
-    [0; 320]
 }

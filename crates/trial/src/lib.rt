@@ -6,18 +6,18 @@ ghost use Rattle.std.specs.Prelude.{◌≡◌};
 ghost use Rattle.trial.specs.Trial.{trial_refusal, trial_of};
 ghost use Rattle.trial.specs.Claims.{AddsUp, AllPlayed};
 
-use decoder::within;
+use decoder::is_squelch;
 use listener::{Counts, Link, sixteen};
 use refusal::{Refusal, refuse_if};
 
-#[tactic(auto, unfolding(crate::specs::Trial::trial_refusal, refusal::specs::First::first_of, decoder::specs::Settings::is_squelch))]
+#[tactic(auto, unfolding(crate::specs::Trial::trial_refusal, refusal::specs::First::first_of))]
 pub fn trial_refusal(rate: i32, subframes: i32, squelch: i32, frames: u32) -> Result<(), Refusal>
     ensures { result ≡ trial_refusal rate subframes squelch frames }
 {
     refuse_if(!shape::is_rate(rate), Refusal::Rate)?;
     refuse_if(!shape::is_count(subframes), Refusal::Size)?;
     refuse_if(frames > 2147483647, Refusal::Length)?;
-    refuse_if(!within(0, 10000, squelch), Refusal::Squelch)
+    refuse_if(!is_squelch(squelch), Refusal::Squelch)
 }
 
 // Each listener's counts. The frames of a load are not decoded: what becomes of each follows from the links alone.

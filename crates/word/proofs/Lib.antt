@@ -7,6 +7,8 @@ pub mod Order
 pub mod Parts
 pub mod Sizes
 pub mod Lists
+pub mod Totals
 pub mod Fits
 pub mod Names
 pub mod Rows
+pub mod Each

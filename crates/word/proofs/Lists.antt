@@ -10,6 +10,7 @@ use lib.Dec.{ltb}
 use lib.ListN.{length, get_or, set, take, drop, length-drop, get_or-append}
 use lib.Seq.{drop-cons, set_at, append_snoc, get_or_at, ext_get_or, length-take-le}
 use lib.IntN.{ℤ, pos, nat_abs}
+use Rattle.std.proofs.lemmas.List.{length_push}
 use Rattle.word.specs.Size.{size_at, sizes, Bounded}
 use Rattle.word.specs.Tabulate.{tabulate}
 
@@ -20,14 +21,8 @@ snoc_le [] x (suc k) W h g = h
 snoc_le (y ∷ ys) x zero W h g = h
 snoc_le (y ∷ ys) x (suc k) W h g = snoc_le ys x k W h g
 
--- the new element is the last
-pub snoc_last : (xs : List ℤ) (x : ℤ) → get_or (xs ++ x ∷ []) (length xs) (pos 0) ≡ x
-snoc_last [] x = refl
-snoc_last (y ∷ ys) x = snoc_last ys x
-
 pub length_snoc : (xs : List ℤ) (x : ℤ) → length (xs ++ x ∷ []) ≡ suc (length xs)
-length_snoc [] x = refl
-length_snoc (y ∷ ys) x = ap suc (length_snoc ys x)
+length_snoc xs x = omega (arith, length_push xs x)
 
 -- past the end there is nothing
 pub beyond : (xs : List ℤ) (k : ℕ) → length xs ≤ k → size_at xs k ≡ 0
@@ -35,17 +30,11 @@ beyond [] k h = refl
 beyond (x ∷ xs) zero h = absurd (not-suc-le-zero h)
 beyond (x ∷ xs) (suc k) h = beyond xs k (le_of_suc-le-suc h)
 
--- an element that was stored, and the others
+-- an element that was stored
 pub set_le : (xs : List ℤ) (j : ℕ) (v : ℤ) (W : ℕ) → nat_abs v ≤ W → size_at (set xs j v) j ≤ W
 set_le [] j v W h = zero-le
 set_le (x ∷ xs) zero v W h = h
 set_le (x ∷ xs) (suc j) v W h = set_le xs j v W h
-
-pub set_other : (xs : List ℤ) (i j : ℕ) (v : ℤ) → (i < j) → get_or (set xs j v) i (pos 0) ≡ get_or xs i (pos 0)
-set_other [] i j v h = refl
-set_other (x ∷ xs) i zero v h = absurd (not-suc-le-zero h)
-set_other (x ∷ xs) zero (suc j) v h = refl
-set_other (x ∷ xs) (suc i) (suc j) v h = set_other xs i j v (le_of_suc-le-suc h)
 
 -- two lists, one after the other
 pub append_le : (xs ys : List ℤ) (i X : ℕ) → (i < length xs → size_at xs i ≤ X) → ((j : ℕ) → size_at ys j ≤ X) → size_at (xs ++ ys) i ≤ X

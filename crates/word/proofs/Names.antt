@@ -5,12 +5,12 @@ use native.Mathlib.Omega.{arith}
 use native.Mathlib.Nat.{mod-eq_of_lt}
 use lib.IntN.{ℤ, pos, negsuc, nat_abs, neg_ℤ, ◌+ℤ◌, ◌-ℤ◌, ◌*ℤ◌}
 use lib.Signed.{◌≤ℤ◌}
-use mir.Syntax.{Width}
+use mir.Syntax.{Width, w16, w32}
 use mir.Val.{bits, to_z, of_z, SFits}
 use mir.ValLaws.{half_full, pow-bits}
-use Rattle.std.specs.Int.{int_min, int_max, int_wrap, int_wrapping_neg}
+use Rattle.std.specs.Int.{int_min, int_max, int_wrap, int_wrapping_neg, saturate_to_bits, saturate_signed}
 use Rattle.std.proofs.lemmas.Int.{ints, wrapping_add_is, wrapping_sub_is, wrapping_mul_is, wrapping_neg_is}
-use Rattle.word.specs.Int.{wrap, min_ℤ, max_ℤ, clamp}
+use Rattle.word.specs.Int.{wrap, min_ℤ, max_ℤ, clamp, sat16, sat32}
 
 pub wrap_is : (w : Width) (z : ℤ) → int_wrap w z ≡ wrap w z
 unfolding int_wrap wrap
@@ -50,3 +50,14 @@ max_is a b = refl
 pub clamp_is : (low high z : ℤ) → low ≤ℤ high → int_max low (int_min z high) ≡ clamp low high z
 unfolding clamp
 clamp_is low high z h = grind (arith, ints)
+
+saturate_is : (h : ℕ) (z : ℤ) → saturate_to_bits h z ≡ clamp (negsuc (2 ^ h - 1)) (pos (2 ^ h - 1)) z
+unfolding clamp
+saturate_is h (pos n) = grind (arith, ints)
+saturate_is h (negsuc n) = grind (arith, ints)
+
+pub sat16_is : (z : ℤ) → saturate_signed w16 z ≡ sat16 z
+sat16_is z = saturate_is 15 z
+
+pub sat32_is : (z : ℤ) → saturate_signed w32 z ≡ sat32 z
+sat32_is z = saturate_is 31 z

@@ -26,9 +26,6 @@ lt_read_r a h e = rw (to_z-of_z h) at e
 pub le_read_l : {w : Width} {a : ℤ} (b : ℤ) {t : Bool} → SFits w a → le_z (to_z w (of_z w a)) b ≡ t → le_z a b ≡ t
 le_read_l b h e = rw (to_z-of_z h) at e
 
-pub le_read_r : {w : Width} (a : ℤ) {b : ℤ} {t : Bool} → SFits w b → le_z a (to_z w (of_z w b)) ≡ t → le_z a b ≡ t
-le_read_r a h e = rw (to_z-of_z h) at e
-
 -- any test of a number that was read back from its bits
 pub tested : (w : Width) {b : Bool} (f : ℤ → Bool) (z : ℤ) → mag z < 2 ^ hbits w → f (to_z w (of_z w z)) ≡ b → f z ≡ b
 tested w f z h e = sym (ap f (to_z-of_z {w = w} {z = z} (record { sfits = h }))) ∙ e
@@ -69,10 +66,6 @@ pub abs_neg : (a : ℤ) → lt_z a (pos 0) ≡ true → pos (nat_abs a) ≡ neg_
 abs_neg (pos n) e = let k = ltb-true n 0 e in absurd (not-suc-le-zero k)
 abs_neg (negsuc n) e = refl
 
-pub abs_pos : (a : ℤ) → lt_z a (pos 0) ≡ false → pos (nat_abs a) ≡ a
-abs_pos (pos n) e = refl
-abs_pos (negsuc n) e = cc
-
 -- ---- limits
 -- neither below nor above
 pub between : (B : ℕ) (z : ℤ) → lt_z z (negsuc B) ≡ false → lt_z (pos B) z ≡ false → mag z ≤ B
@@ -97,21 +90,7 @@ sat16-fits z = record { sfits = omega (arith, clamp_mag 32767 z) }
 pub sat32-fits : (z : ℤ) → SFits w32 (sat32 z)
 sat32-fits z = record { sfits = omega (arith, clamp_mag 2147483647 z) }
 
--- a number within the limits is kept
-pub clamp_id : (B : ℕ) (z : ℤ) → mag z ≤ B → clamp (negsuc B) (pos B) z ≡ z
-unfolding clamp
-clamp_id B (pos n) h = rw (le-ltb B n h) refl
-clamp_id B (negsuc n) h = rw (le-ltb B n h) refl
-
 -- one of two numbers that fit, so the smaller and the larger
 pub cond_fits : {w : Width} (t : Bool) {a b : ℤ} → SFits w a → SFits w b → SFits w (cond t a b)
 cond_fits true h k = h
 cond_fits false h k = k
-
-pub min_fits : {w : Width} (a b : ℤ) → SFits w a → SFits w b → SFits w (min_ℤ a b)
-unfolding min_ℤ
-min_fits a b h k = cond_fits (lt_z a b) h k
-
-pub max_fits : {w : Width} (a b : ℤ) → SFits w a → SFits w b → SFits w (max_ℤ a b)
-unfolding max_ℤ
-max_fits a b h k = cond_fits (lt_z b a) h k

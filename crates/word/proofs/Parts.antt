@@ -80,42 +80,7 @@ le_of (negsuc a) (negsuc b) h = let k = leb→le b a h in omega arith
 pub parts_le : {a b : ℤ} → a ≤ℤ b → P a + N b ≤ P b + N a
 parts_le {a} {b} h = le_of a b h.le
 
-lt_of : (a b : ℤ) → T (lt_z a b) → P a + N b < P b + N a
-lt_of (pos a) (pos b) h = let k = ltb→lt a b h in omega arith
-lt_of (pos a) (negsuc b) h = absurd h
-lt_of (negsuc a) (pos b) h = omega arith
-lt_of (negsuc a) (negsuc b) h = let k = ltb→lt b a h in omega arith
-
-pub parts_lt : {a b : ℤ} → a <ℤ b → P a + N b < P b + N a
-parts_lt {a} {b} h = lt_of a b h.lt
-
-pub lt_parts : (a b : ℤ) → P a + N b < P b + N a → a <ℤ b
-lt_parts (pos a) (pos b) h = record { lt = lt→ltb a b (omega arith) }
-lt_parts (pos a) (negsuc b) h = absurd (omega arith)
-lt_parts (negsuc a) (pos b) h = record { lt = tt }
-lt_parts (negsuc a) (negsuc b) h = record { lt = lt→ltb b a (omega arith) }
-
 -- ---- sizes
 pub mag_parts : (z : ℤ) (H : ℕ) → mag z < H → (P z < H) × (N z ≤ H)
 mag_parts (pos n) H h = (h, omega arith)
 mag_parts (negsuc n) H h = (omega arith, h)
-
-pub parts_mag : (z : ℤ) (H : ℕ) → P z < H → N z ≤ H → mag z < H
-parts_mag (pos n) H p n' = p
-parts_mag (negsuc n) H p n' = n'
-
--- ---- the order
-pub ≤ℤ_trans : {a b c : ℤ} → a ≤ℤ b → b ≤ℤ c → a ≤ℤ c
-≤ℤ_trans {a} {b} {c} h k = le_parts a c (omega (arith, parts_le h, parts_le k))
-
-div_mono : (m a b : ℕ) → 0 < m → a ≤ b → a / m ≤ b / m
-div_mono m a b p h = (le-div_iff_mul-le p).1 (le_trans (div-mul-le_self a m) h)
-
-pub floor_div_mono : (a b : ℤ) (m : ℕ) → 0 < m → a ≤ℤ b → floor_div a m ≤ℤ floor_div b m
-floor_div_mono a b m p h = le_parts (floor_div a m) (floor_div b m) (go a b (parts_le h))
-  where
-    go : (a b : ℤ) → P a + N b ≤ P b + N a → P (floor_div a m) + N (floor_div b m) ≤ P (floor_div b m) + N (floor_div a m)
-    go (pos a) (pos b) h = let k : a / m ≤ b / m = div_mono m _ _ p (omega arith) in omega arith
-    go (pos a) (negsuc b) h = absurd (omega arith)
-    go (negsuc a) (pos b) h = omega arith
-    go (negsuc a) (negsuc b) h = let k : b / m ≤ a / m = div_mono m _ _ p (omega arith) in omega arith

@@ -1,24 +1,22 @@
 -- What a table's test says of each of its rows.
 use Prim.Native.Nat.{ℕ, zero, suc, ◌<◌}
-use mathlib.Core.Path.{◌≡◌, refl}
+use mathlib.Core.Path.{◌≡◌}
 use mathlib.Core.Bool.{Bool, true, false, ◌&&◌, ◌||◌}
 use mathlib.Core.List.{List, [], ◌∷◌}
-use native.Mathlib.Omega.{arith}
 use native.Mathlib.Nat.{le_of_suc-le-suc, not-suc-le-zero}
 use lib.ListN.{length, get_or}
+use Rattle.std.proofs.lemmas.Bool.{and_parts, or_parts}
 use Rattle.word.specs.Int.{eq_ℤ}
 use Rattle.word.specs.Row.{Row, agree}
 use Rattle.word.proofs.Order.{eq_ℤ_true}
 
 -- both of two tests that are true together
 pub both : (a b : Bool) → (a && b) ≡ true → (a ≡ true) × (b ≡ true)
-both true b e = (refl, e)
-both false b e = let z : ◌≡◌ {A = ℕ} 0 1 = cc in absurd (omega arith)
+both = and_parts
 
 -- neither of two tests, of which none is true
 pub neither : (a b : Bool) → (a || b) ≡ false → (a ≡ false) × (b ≡ false)
-neither true b e = let z : ◌≡◌ {A = ℕ} 0 1 = cc in absurd (omega arith)
-neither false b e = (refl, e)
+neither = or_parts
 
 pub row_agrees : (rows : List Row) (k : ℕ) (d : Row) → agree rows ≡ true → k < length rows → (get_or rows k d).computed ≡ (get_or rows k d).outcome
 unfolding agree

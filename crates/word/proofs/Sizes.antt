@@ -10,8 +10,8 @@ use lib.IntN.{ℤ, pos, negsuc, nat_abs, neg_ℤ, ◌+ℤ◌, ◌-ℤ◌, ◌*�
 use lib.Signed.{lt_z}
 use mir.Syntax.{Width}
 use mir.Val.{SFits, hbits}
-use Rattle.word.specs.Int.{floor_div, wrap, clamp, min_ℤ}
-use Rattle.word.proofs.Parts.{P, N, add_parts, div_parts}
+use Rattle.word.specs.Int.{floor_div, wrap, wrap32, clamp, min_ℤ}
+use Rattle.word.proofs.Parts.{P, N, add_parts, sub_parts_ℤ, div_parts}
 use Rattle.word.proofs.Words.{wrap_id, wrap-fits}
 
 pub abs-parts : (z : ℤ) → nat_abs z ≡ P z + N z
@@ -55,6 +55,13 @@ fits-abs (negsuc n) h = h.sfits
 pub abs-fits : {w : Width} (z : ℤ) → nat_abs z < 2 ^ hbits w → SFits w z
 abs-fits (pos n) h = record { sfits = h }
 abs-fits (negsuc n) h = record { sfits = omega arith }
+
+-- a difference of two numbers of a word that are not negative
+pub difference_kept : (a b : ℕ) → a < 2 ^ 31 → b < 2 ^ 31 → wrap32 (pos a -ℤ pos b) ≡ pos a -ℤ pos b
+difference_kept a b h k =
+    let z = pos a -ℤ pos b in
+    let p = sub_parts_ℤ (pos a) (pos b) in
+    wrap_id (abs-fits z (omega (arith, abs_le z 2147483647 (omega arith) (omega arith))))
 
 -- no word makes a number larger
 pub abs-wrap : (w : Width) (z : ℤ) → nat_abs (wrap w z) ≤ nat_abs z

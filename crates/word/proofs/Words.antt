@@ -8,15 +8,18 @@ use borrow.Author.Tests.{lt-ltb, le-ltb, ltb-true, ltb-false, eqb-true, eqb-fals
 use lib.Arith.{comp_comp}
 use lib.Bits.{bit_and, and_mask}
 use lib.Dec.{T, eqb, ltb, leb, leb→le, le→leb}
-use lib.IntN.{ℤ, pos, negsuc, neg_ℤ, ◌+ℤ◌, ◌-ℤ◌, ◌*ℤ◌, +ℤ_comm, *ℤ_comm}
+use lib.IntN.{ℤ, pos, negsuc, neg_ℤ, ◌+ℤ◌, ◌-ℤ◌, ◌*ℤ◌}
 use lib.Pow.{pow_pos, pow_mono, pow-add, shl_lt, shl-shr, shr_lt, split, high, low, mod-pow-add, mod-mod-pow}
 use lib.Signed.{mag, shr_z}
 use mir.Syntax.{Width, w32}
 use mir.Val.{bool_byte, bits, to_z, of_z, SFits, hbits}
 use mir.ValLaws.{half_full}
-use mir.Facts.{to_z_pos, to_z-of_z, sfits_to_z, sfits_widen}
+use mir.Facts.{to_z_pos, to_z-of_z, sfits_widen}
+use Rattle.std.specs.Int.{int_wrap}
+use Rattle.std.proofs.lemmas.Int.{SFits-int_wrap, int_wrap_fits, int_wrap-add_left, int_wrap-add_right, int_wrap-sub_right, int_wrap-mul_left, int_wrap-mul_right}
 use Rattle.word.specs.Int.{eq_ℤ, mod_ℤ, wrap}
-use Rattle.word.proofs.Mod.{mod_ℤ_lt, mod_add_l, mod_mul_l}
+use Rattle.word.proofs.Mod.{mod_ℤ_lt, mod_mul_l}
+use Rattle.word.proofs.Names.{wrap_is}
 use Rattle.word.proofs.Order.{eq_ℤ_refl, eq_ℤ_ne}
 
 -- ---- a value read back from its bits
@@ -70,8 +73,7 @@ pub amount : (w : Width) (j k : ℕ) (z : ℤ) → bits w ≡ j + k → SFits w 
 amount w j k z e h = and_mask (of_z w z) k ∙ low_bits w j k z e h
 
 pub wrap-fits : (w : Width) (z : ℤ) → SFits w (wrap w z)
-unfolding wrap
-wrap-fits w z = sfits_to_z {n = mod_ℤ z (2 ^ bits w)} (record { fits = mod_ℤ_lt z (2 ^ bits w) (pow_pos (bits w)) })
+wrap-fits w z = subst (SFits w) (wrap_is w z) (SFits-int_wrap w z)
 
 -- the low word of two, by a shift to the left and back
 module _ (w w' : Width) (eb : bits w' ≡ bits w + bits w) (eh : hbits w' ≡ hbits w + bits w) where
@@ -115,8 +117,7 @@ mod_bits_of w (negsuc n) h = ap (λ (k : ℕ). 2 ^ bits w - suc k) (mod-eq_of_lt
 
 -- a number that fits is kept
 pub wrap_id : {w : Width} {z : ℤ} → SFits w z → wrap w z ≡ z
-unfolding wrap
-wrap_id {w} {z} h = ap (to_z w) (mod_bits_of w z h) ∙ to_z-of_z h
+wrap_id {w} {z} h = sym (wrap_is w z) ∙ int_wrap_fits w z h
 
 -- the bits n, read as signed, are n modulo the word
 mod-to_z : (w : Width) (n : ℕ) → n < 2 ^ bits w → mod_ℤ (to_z w n) (2 ^ bits w) ≡ n
@@ -158,28 +159,22 @@ wrap_cong w a b e = ap (to_z w) e
 pub wrap-wrap : (w : Width) (a : ℤ) → wrap w (wrap w a) ≡ wrap w a
 wrap-wrap w a = wrap_id (wrap-fits w a)
 
+-- numbers that the library wraps alike
+same_wrap : (w : Width) (y z : ℤ) → int_wrap w y ≡ int_wrap w z → wrap w y ≡ wrap w z
+same_wrap w y z e = sym (wrap_is w y) ∙ e ∙ wrap_is w z
+
 -- a wrap inside a sum or a product may go
 pub wrap_add_l : (w : Width) (a b : ℤ) → wrap w (wrap w a +ℤ b) ≡ wrap w (a +ℤ b)
-wrap_add_l w a b =
-    let M = 2 ^ bits w in
-    let h = pow_pos (bits w) in
-    wrap_cong w (wrap w a +ℤ b) (a +ℤ b)
-    (mod_add_l (wrap w a) b M h ∙ ap (λ (k : ℕ). mod_ℤ (pos k +ℤ b) M) (mod-wrap w a) ∙ sym (mod_add_l a b M h))
+wrap_add_l w a b = same_wrap w _ _ (ap (λ (x : ℤ). int_wrap w (x +ℤ b)) (sym (wrap_is w a)) ∙ int_wrap-add_left w a b)
 
 pub wrap_add_r : (w : Width) (a b : ℤ) → wrap w (a +ℤ wrap w b) ≡ wrap w (a +ℤ b)
-wrap_add_r w a b =
-    ap (wrap w) (+ℤ_comm a (wrap w b)) ∙ wrap_add_l w b a ∙ ap (wrap w) (+ℤ_comm b a)
+wrap_add_r w a b = same_wrap w _ _ (ap (λ (x : ℤ). int_wrap w (a +ℤ x)) (sym (wrap_is w b)) ∙ int_wrap-add_right w a b)
 
 pub wrap_mul_l : (w : Width) (a b : ℤ) → wrap w (wrap w a *ℤ b) ≡ wrap w (a *ℤ b)
-wrap_mul_l w a b =
-    let M = 2 ^ bits w in
-    let h = pow_pos (bits w) in
-    wrap_cong w (wrap w a *ℤ b) (a *ℤ b)
-    (mod_mul_l (wrap w a) b M h ∙ ap (λ (k : ℕ). mod_ℤ (pos k *ℤ b) M) (mod-wrap w a) ∙ sym (mod_mul_l a b M h))
+wrap_mul_l w a b = same_wrap w _ _ (ap (λ (x : ℤ). int_wrap w (x *ℤ b)) (sym (wrap_is w a)) ∙ int_wrap-mul_left w a b)
 
 pub wrap_mul_r : (w : Width) (a b : ℤ) → wrap w (a *ℤ wrap w b) ≡ wrap w (a *ℤ b)
-wrap_mul_r w a b =
-    ap (wrap w) (*ℤ_comm a (wrap w b)) ∙ wrap_mul_l w b a ∙ ap (wrap w) (*ℤ_comm b a)
+wrap_mul_r w a b = same_wrap w _ _ (ap (λ (x : ℤ). int_wrap w (a *ℤ x)) (sym (wrap_is w b)) ∙ int_wrap-mul_right w a b)
 
 minus_one : (a : ℤ) → a *ℤ negsuc 0 ≡ neg_ℤ a
 minus_one (pos n) =
@@ -190,10 +185,6 @@ minus_one (negsuc n) = ap pos (omega arith)
 pub wrap_neg : (w : Width) (a : ℤ) → wrap w (neg_ℤ (wrap w a)) ≡ wrap w (neg_ℤ a)
 wrap_neg w a =
     ap (wrap w) (sym (minus_one (wrap w a))) ∙ wrap_mul_l w a (negsuc 0) ∙ ap (wrap w) (minus_one a)
-
-pub wrap_sub_r : (w : Width) (a b : ℤ) → wrap w (a -ℤ wrap w b) ≡ wrap w (a -ℤ b)
-wrap_sub_r w a b =
-    sym (wrap_add_r w a (neg_ℤ (wrap w b))) ∙ ap (λ (z : ℤ). wrap w (a +ℤ z)) (wrap_neg w b) ∙ wrap_add_r w a (neg_ℤ b)
 
 -- ---- shifts
 -- what a shift to the left leaves in a word

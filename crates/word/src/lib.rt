@@ -1,32 +1,27 @@
-// Signed words: exact sums and products in a wider word, the low bits of a wider number, shifts and order.
-// Inner: every function. The names stay where the library has a method of another name: the definitions speak of integers, and so do these contracts.
+// Signed words: exact sums and products in a wider word, the low bits of a wider number, shifts and order; and a slice mapped into another.
+// Inner: every function. Where the library has a method, its clause goes by a width (`int_wrapping_add w32`), and these by the integer, as the definitions do.
 // A shift takes the low bits of its amount, as a release build of Rust does.
 #![tactic(auto)]
 
-ghost use Rattle.std.specs.Prelude.{◌≡◌, ◌^◌, ◌<◌, pos, nat_abs, neg_ℤ, ◌+ℤ◌, ◌-ℤ◌, ◌*ℤ◌, ℤ};
+ghost use Rattle.std.specs.Prelude.{◌≡◌, ◌^◌, ◌<◌, pos, nat_abs, neg_ℤ, ◌+ℤ◌, ◌-ℤ◌, ◌*ℤ◌, ℤ, length};
+ghost use Rattle.std.specs.List.{AllZip};
 ghost use Rattle.word.specs.Int.{wrap16, wrap32, wrap64, floor_div, mod_ℤ, sat16, sat32};
 
-// The same number, in 64 bits.
+// The same number, in 64 bits: `i64::from` by a name that tells the width, by which proofs cite the call.
 pub fn wide(a: i32) -> i64
     ensures { result ≡ a }
 {
     i64::from(a)
 }
 
-// The same number, in 32 bits; so below.
-pub fn wide8(a: i8) -> i32
-    ensures { result ≡ a }
-{
-    i32::from(a)
-}
-
+// The same number, in 32 bits, likewise.
 pub fn wide16(a: i16) -> i32
     ensures { result ≡ a }
 {
     i32::from(a)
 }
 
-// A number of up to 32 bits.
+// A number of up to 32 bits. Not `Into<i32>`, whose ghost member is a relation: definitions over such numbers need a function.
 pub trait Number: Copy {
     ghost number: { Self → ℤ };
 
@@ -38,7 +33,7 @@ impl Number for i8 {
     ghost number = { λ x. x };
 
     fn number(self) -> i32 {
-        wide8(self)
+        i32::from(self)
     }
 }
 
@@ -58,7 +53,7 @@ impl Number for i32 {
     }
 }
 
-// The low 32 bits, by two shifts, since an `as` must keep the number; and so the low 16.
+// The low 32 bits, by two shifts, since an `as` must keep the number; and so the low 16. Two functions, as each shift below.
 pub fn low32(x: i64) -> i32
     ensures { result ≡ wrap32 x }
 {
@@ -78,7 +73,7 @@ pub fn sum64(a: i32, b: i32) -> i64
     i64::from(a) + i64::from(b)
 }
 
-// Divided by 2 ^ s, rounded down.
+// Divided by 2 ^ s, rounded down. Each shift stands at two widths: a trait for both would need ghost members for the width, more than the line that is saved.
 pub fn shr64(x: i64, s: i32) -> i64
     ensures { result ≡ floor_div x (2 ^ mod_ℤ s 64) }
 {
@@ -116,13 +111,6 @@ pub fn mul16(a: i16, b: i16) -> i32
     ensures { result ≡ a *ℤ b }
 {
     i32::from(a) * i32::from(b)
-}
-
-// The whole sum of two short numbers.
-pub fn sum32(a: i16, b: i16) -> i32
-    ensures { result ≡ a +ℤ b }
-{
-    i32::from(a) + i32::from(b)
 }
 
 #[tactic(auto, using(crate::proofs::Words::kept, crate::proofs::Names::neg_is))]
@@ -167,7 +155,7 @@ pub fn low_bit(x: i64) -> i64
     x & 1
 }
 
-// The nearest number of 16 bits.
+// The nearest number of 16 bits. Two functions, as each shift above.
 pub fn sat16(a: i32) -> i16
     ensures { result ≡ sat16 a }
 {
@@ -179,4 +167,15 @@ pub fn sat32(x: i64) -> i32
     ensures { result ≡ sat32 x }
 {
     x.clamp(-2147483648, 2147483647) as i32
+}
+
+// Each element of from, by f. By places, since after a zip over `iter_mut` the library tells only the length of to.
+pub fn map_into<A: Copy, B: Copy, F: Fn(A) -> B>(from: &[A], to: &mut [B], f: F)
+    requires callable { F.IsAlwaysCallable f }
+    requires room { length to.old ≡ length from.now }
+    ensures { AllZip (λ x y. F.post f x y) from.now to.new }
+{
+    for (i, x) in from.iter().enumerate() {
+        to[i] = f(*x);
+    }
 }

@@ -1,37 +1,37 @@
-use mathlib.Core.Path.{◌≡◌}
-use lib.IntN.{◌+ℤ◌}
-use mir.Syntax.{w32}
-use mir.Val.{to_z, of_z}
+use Prim.Native.Nat.{◌*◌, ◌<◌, ◌≤◌}
+use mathlib.Core.Path.{◌≡◌, refl, ◌∙◌}
+use mathlib.Core.List.{map-id}
+use native.Mathlib.Omega.{arith}
+use borrow.Author.Rules.{rules}
+use lib.IntN.{pos, ◌+ℤ◌}
+use lib.ListN.{length, take, drop}
+use lib.Signed.{mag}
+use mir.Syntax.{w16, w32}
+use Rattle.std.proofs.lemmas.Iterator.{YieldsList-from_slice, YieldsList-from_map}
+use Rattle.std.proofs.lemmas.Iterator.Adapters.{total_from_yields_List, at_most_from_yields_List}
+use Rattle.word.proofs.Lists.{length_part}
+use Rattle.word.proofs.Sizes.{fits-abs}
+use Rattle.word.proofs.Totals.{sum_fits, sum_at_most}
 use Rattle.word.proofs.Words.{kept}
-use Rattle.judge.specs.Taps.{tap_sum}
-use Rattle.judge.proofs.Sums.{five, by-words}
+use Rattle.judge.proofs.Sums.{by_fold}
 use Rattle.judge.proofs.tap_sum.Goals as goal
 
+pub sum-requires-clause-fits : goal.sum-requires-clause-fits
+sum-requires-clause-fits c =
+    let t = c.args.taps.now in
+    let a = take 5 (drop (5 * c.args.k) t) in
+    let n : length a ≤ 5 = omega (arith, length_part t (5 * c.args.k) 5 c.requires) in
+    sum_fits _ _ 32768 5 (at_most_from_yields_List (YieldsList-from_slice a (search rules)) n) c.map.ensures.closure (omega arith)
+    (λ x r q k. let f : mag x.now < 32768 = search rules in let e : (q ≡ _) × (r ≡ x.now) = search rules in (e.0, rw e.1 (fits-abs {w = w16} x.now (record { sfits = f }))))
+
 pub returns : goal.returns
-unfolding tap_sum
 returns c =
-    let t5 = c.tap-5 in
-    let t4 = c.tap-4 in
-    let t3 = c.tap-3 in
-    let t2 = c.tap-2 in
-    let t1 = c.tap in
-    let e : to_z w32 (of_z w32 c.add32-2.result) ≡ t1.result +ℤ t2.result +ℤ t3.result +ℤ t4.result +ℤ t5.result =
-    rw (
-      kept w32 _ c.add32-2.type_inv,
-      c.add32-2.ensures,
-      kept w32 _ c.add32-four.type_inv,
-      c.add32-four.ensures,
-      kept w32 _ c.add32.type_inv,
-      c.add32.ensures,
-      kept w32 _ c.add32-two.type_inv,
-      c.add32-two.ensures,
-      kept w32 _ t1.type_inv,
-      kept w32 _ t2.type_inv,
-      kept w32 _ t3.type_inv,
-      kept w32 _ t4.type_inv,
-      kept w32 _ t5.type_inv,
-    )
-    (by-words t1.result t2.result t3.result t4.result t5.result t1.ensures.1 t2.ensures.1 t3.ensures.1 t4.ensures.1 t5.ensures.1) in (
-      rw (e, t1.ensures.0, t2.ensures.0, t3.ensures.0, t4.ensures.0, t5.ensures.0),
-      rw e (five t1.result t2.result t3.result t4.result t5.result t1.ensures.1 t2.ensures.1 t3.ensures.1 t4.ensures.1 t5.ensures.1),
-    )
+    let t = c.args.taps.now in
+    let a = take 5 (drop (5 * c.args.k) t) in
+    let n : length a ≤ 5 = omega (arith, length_part t (5 * c.args.k) 5 c.requires) in
+    let e = total_from_yields_List ◌+ℤ◌ (pos 0) c.sum.result c.sum.ensures.ran (YieldsList-from_map _ (λ x. x) (YieldsList-from_slice a (search rules)) c.map.ensures.closure (λ x r q k. search rules)) in
+    let b = sum_at_most _ _ 32768 5 c.sum.result (at_most_from_yields_List (YieldsList-from_slice a (search rules)) n) c.map.ensures.closure
+    (λ x r q k. let f : mag x.now < 32768 = search rules in let e : (q ≡ _) × (r ≡ x.now) = search rules in (e.0, rw e.1 (fits-abs {w = w16} x.now (record { sfits = f }))))
+    c.sum.ensures.ran in
+    let k = kept w32 c.sum.result c.sum.type_inv in
+    (k ∙ rw (e, map-id a) (by_fold t c.args.k c.requires), rw k b)

@@ -1,5 +1,4 @@
 use mathlib.Core.Path.{◌≡◌, sym, ap, ◌∙◌}
-use mathlib.Core.Bool.{true, false}
 use lib.ListN.{length}
 use Rattle.word.proofs.Lists.{length-tabulate}
 use mir.Facts.{to_z-of_z}

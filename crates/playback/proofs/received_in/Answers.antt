@@ -1,20 +1,18 @@
-use Rattle.std.proofs.Common.{◌+◌, ◌*◌, ◌≤◌, length, ◌∙◌, rules}
-use Rattle.std.proofs.lemmas.List.{get_or_default}
+use Rattle.std.proofs.Common.{◌∙◌, rules}
 use Rattle.std.proofs.lemmas.Iterator.{YieldsList-from_slice}
 use Rattle.std.proofs.lemmas.Iterator.Adapters.{serves_from_places}
 use Rattle.std.proofs.lemmas.Iterator.Consumers.{YieldsList-from_filter, count_from_yields_List}
+use Rattle.recording.proofs.Back.{record_at}
 use Rattle.playback.proofs.Received.{was_received, received_each}
 use Rattle.playback.proofs.received_in.Goals as goal
 
 pub count-requires-clause-can : goal.count-requires-clause-can
-count-requires-clause-can c =
-    let r = c.args.frames.now.records.now in
-    let b = c.args.frames.now.bytes.now in (
-      tt,
-      tt,
-      serves_from_places (YieldsList-from_slice r cc) (λ x q k. search rules)
-          (λ x k h e. let z : 1024 * x.now + 1024 ≤ length b = rw (e ∙ get_or_default r k x.now 0 h) (c.args.frames.now.inside k) in search rules),
-    )
+count-requires-clause-can c = (
+  tt,
+  tt,
+  serves_from_places (YieldsList-from_slice c.args.frames.now.records.now cc) (λ x q k. search rules)
+      (λ x k h e. let z = record_at _ _ c.args.frames.now.inside x.now k h e in search rules),
+)
 
 pub returns : goal.returns
 returns c =

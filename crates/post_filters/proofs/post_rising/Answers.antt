@@ -1,29 +1,21 @@
-use mathlib.Core.Path.{refl, sym, ◌∙◌}
-use borrow.Author.Tests.{lt-ltb, le-ltb}
+use mathlib.Core.Path.{ap, ◌∙◌}
+use mathlib.Core.Bool.{cond}
+use mathlib.Core.List.{[], ◌∷◌}
+use lib.Dec.{ltb}
 use lib.IntN.{pos}
 use lib.ListN.{length}
 use mir.Syntax.{w32}
-use Rattle.word.proofs.Words.{got, bool_number}
-use mathlib.Core.Bool.{cond}
-use Rattle.post_filters.specs.Calls.{called, given, rising_call}
-use Rattle.post_filters.proofs.Ends.{set-one}
+use Rattle.word.proofs.Words.{kept, bool_number}
+use Rattle.post_filters.specs.Calls.{called, rising_call}
+use Rattle.post_filters.proofs.Ends.{mapped}
 use Rattle.post_filters.proofs.post_rising.Goals as goal
 
-pub returns-then-answer-lt1 : goal.returns-then-answer-lt1
-unfolding rising_call called
-returns-then-answer-lt1 c = rw (lt-ltb (length c.args.answer.now) 1 c.if-answer-lt1.true) refl
-
-pub returns-in-Ok : goal.returns-in-Ok
-unfolding rising_call called given
-returns-in-Ok c =
+pub returns : goal.returns
+unfolding rising_call
+returns c =
     let lent = c.args.answer.now in
-    let e = sym c.in-Ok.ensures in
-    let x = got w32 c.from.type_inv (c.from.ensures ∙ bool_number c.in-Ok.rising) in
-    rw (le-ltb (length lent) 1 c.if-answer-lt1.false, e, x, set-one lent (cond c.in-Ok.rising (pos 1) (pos 0)) c.if-answer-lt1.false) refl
-
-pub returns-in-Err : goal.returns-in-Err
-unfolding rising_call called given
-returns-in-Err c =
-    let e = sym c.in-Err.ensures in
-    let n = got w32 c.code.type_inv c.code.ensures in
-    rw (le-ltb (length c.args.answer.now) 1 c.if-answer-lt1.false, e, n) refl
+    let short = ltb (length lent) 1 in
+    (λ i. record { answer = kept w32 c.put_one.result c.put_one.type_inv i; slice = c.put_one.new.to })
+    ∙ c.put_one.ensures
+    ∙ mapped (λ b. cond b (pos 1) (pos 0)) _ (λ x y k. k ∙ bool_number x) c.rising_check.result c.map.result c.map.ensures.cases short lent
+    ∙ ap (λ r. called short (λ x. cond x (pos 1) (pos 0) ∷ []) r lent) c.rising_check.ensures

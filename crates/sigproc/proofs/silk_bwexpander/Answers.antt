@@ -1,5 +1,6 @@
 use Rattle.std.proofs.Common.{◌≡◌, length, take, refl, le_refl, add-one, arith, length-take-le, to_z-of_z, w16, w32, to_z, of_z}
 use Rattle.word.proofs.Words.{kept}
+use Rattle.macros.specs.Fixed.{rshift_round64, mul_q}
 use Rattle.sigproc.specs.Expand.{factor, bwexpander}
 use Rattle.sigproc.proofs.Shrink.{expand_past, expand_front}
 use Rattle.sigproc.proofs.silk_bwexpander.Goals as goal
@@ -9,11 +10,11 @@ unfolding factor bwexpander
 loop-a-init c = (refl, refl)
 
 pub loop-a-preserved : goal.loop-a-preserved
-unfolding factor bwexpander
+unfolding factor bwexpander mul_q rshift_round64
 loop-a-preserved c =
     let a = c.args in
     let l = c.loop-a in (
-      rw (add-one, kept w32 c.round_q16-f.result c.round_q16-f.type_inv, c.round_q16-f.ensures, l.invariant.0),
+      rw (add-one, kept w32 c.mul_q-f.result c.mul_q-f.type_inv, c.mul_q-f.ensures, l.invariant.0),
       rw (
         add-one,
         kept w16 _ c.shrunk.type_inv,

@@ -9,9 +9,9 @@ use mir.Syntax.{w16, w32}
 use Rattle.std.proofs.lemmas.Iterator.{YieldsList-from_slice, YieldsList-from_map}
 use Rattle.std.proofs.lemmas.Iterator.Adapters.{total_from_yields_List, at_most_from_yields_List}
 use Rattle.word.proofs.Sizes.{fits-abs}
+use Rattle.word.proofs.Totals.{fold_by_place, sum_fits}
 use Rattle.word.proofs.Words.{kept}
 use Rattle.stability.specs.Stability.{total}
-use Rattle.stability.proofs.Sums.{fold_by_place, sum_fits}
 use Rattle.stability.proofs.dc_resp.Goals as goal
 
 pub sum-requires-clause-fits : goal.sum-requires-clause-fits

@@ -5,8 +5,9 @@ use native.Mathlib.Omega.{arith}
 use lib.IntN.{pos}
 use lib.ListN.{take, drop, replicate}
 use lib.Seq.{take-append-le, length-take-le}
+use Rattle.std.proofs.lemmas.List.{take-replicate}
 use Rattle.sigproc.proofs.Places.{put_whole}
-use Rattle.decode_core.proofs.Frames.{zeros-words, take-zeros, length-signal, memory_front, memory_in, finished}
+use Rattle.decode_core.proofs.Frames.{zeros-words, length-signal, memory_front, memory_in, finished}
 use Rattle.decode_core.proofs.Source.synthesise.Goals as goal
 
 pub invariant_of-past : goal.invariant_of-past
@@ -28,7 +29,7 @@ returns c =
     let i = length-signal s (replicate 96 (pos 0)) memory l refl c.copy_at.auto.dst h in
     let t : take 16 (p ++ drop (16 + l) s) ≡ take 16 p = take-append-le 16 p (drop (16 + l) s) (omega (arith, u.auto.signal)) in
     finished f g.rows g.exc.now f.nb_subfr c.args.b u.result (take f.ltp_mem_length (replicate 640 (pos 0))) (take (16 + l) s) p u.new.past c.args.out_buf.now u.new.out_buf c.args.xq.now u.new.xq memory _
-    (take-zeros f.ltp_mem_length 640 (omega (arith, c.requires.0.sized.history)))
+    (take-replicate f.ltp_mem_length 640 (pos 0) (omega (arith, c.requires.0.sized.history)))
     (memory_in s (replicate 96 (pos 0)) memory l refl c.copy_at.auto.dst h c.copy_at.ensures c.told-memory)
     u.ensures.0
     u.ensures.1

@@ -10,7 +10,7 @@ use mir.Facts.{to_z-of_z}
 use Rattle.std.specs.Prelude.{Result, Ok, Err, OkIff}
 use Rattle.std.specs.Result.{result_unwrap_or}
 use Rattle.word.proofs.Words.{kept}
-use Rattle.word.proofs.Rows.{both}
+use Rattle.std.proofs.lemmas.Bool.{and_parts}
 use Rattle.decoder.specs.Ranges.{within}
 use Rattle.layout.specs.Frame.{small}
 use Rattle.layout.proofs.frame.small.Goals as goal
@@ -19,7 +19,7 @@ use Rattle.layout.proofs.frame.small.Goals as goal
 eight : (z : ℤ) → within (negsuc 127) (pos 127) z ≡ true → SFits w8 z
 unfolding within
 eight (pos n) e = record { sfits = omega (arith, leb-true n 127 e) }
-eight (negsuc n) e = record { sfits = omega (arith, leb-true n 127 (both (leb n 127) true e).0) }
+eight (negsuc n) e = record { sfits = omega (arith, leb-true n 127 (and_parts (leb n 127) true e).0) }
 
 inside : (z : ℤ) → SFits w8 z → within (negsuc 127) (pos 127) z ≡ true
 unfolding within

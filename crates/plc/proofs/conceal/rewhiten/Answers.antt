@@ -10,9 +10,10 @@ use mir.Val.{to_z, of_z}
 use Rattle.word.proofs.Words.{kept, got}
 use Rattle.shape.specs.Shape.{rate_of, order_of}
 use Rattle.shape.specs.Order.{size}
-use Rattle.shape.proofs.Shapes.{rates, rate_le, rate_back}
+use Rattle.shape.proofs.Shapes.{rates, rate_le}
 use Rattle.decoder.proofs.Between.{between}
 use Rattle.plc.specs.Conceal.{inverse_gain_q30, lag_of, rewhitened}
+use Rattle.plc.proofs.Numbers.{frame_times}
 use Rattle.plc.proofs.Pitch.{lag_range}
 use Rattle.plc.proofs.Rewhiten.{rewhitened-buffer}
 use Rattle.plc.proofs.Ready.{order_room}
@@ -43,7 +44,7 @@ lengths c =
     let b = lag_range r h.pitch_l_q8 (between (512 * r) (4608 * r) h.pitch_l_q8 c.requires.1) in
     let o = order_room (rates f.fs_khz f.rate) in
     let e : c.lag_of-lag.result ≡ lag_of h.pitch_l_q8 = c.lag_of-lag.ensures ∙ ap lag_of (kept w32 h.pitch_l_q8 c.struct_told-1.given.0.1) in
-    let m : c.ltp_mem_length-mem.result ≡ 20 * rate_of f.fs_khz = c.ltp_mem_length-mem.ensures ∙ rw (rate_back f.fs_khz f.rate) in
+    let m = frame_times f 20 c.ltp_mem_length-mem.ensures in
     record {
       lag_eq = rw (kept w32 c.lag_of-lag.result c.lag_of-lag.type_inv, e) refl;
       mem_eq = m;

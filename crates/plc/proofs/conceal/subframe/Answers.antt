@@ -13,6 +13,7 @@ use Rattle.shape.specs.Shape.{rate_of}
 use Rattle.shape.proofs.Shapes.{rate_le, rate_range, rates, rate_back}
 use Rattle.decoder.proofs.Between.{Between, between}
 use Rattle.plc.specs.Conceal.{voice_of, lag_of, excited_times, faded, faded_voice}
+use Rattle.plc.proofs.Numbers.{frame_times}
 use Rattle.plc.proofs.Excite.{times_taps, times_scale, times_pitch}
 use Rattle.plc.proofs.Pitch.{lag_range}
 use Rattle.plc.proofs.conceal.subframe.Goals.{After-lag_of-lag, After-subfr_length}
@@ -30,7 +31,7 @@ in_range c =
 
 -- the samples of the subframe
 sub : (c : After-subfr_length) → c.subfr_length.result ≡ 5 * rate_of c.args.frame.fs_khz
-sub c = c.subfr_length.ensures ∙ rw (rate_back c.args.frame.fs_khz c.args.frame.rate)
+sub c = frame_times c.args.frame 5 c.subfr_length.ensures
 
 pub overflow_cast-lag : goal.overflow_cast-lag
 overflow_cast-lag c =

@@ -7,9 +7,10 @@ use lib.IntN.{nat_abs}
 use lib.ListN.{take}
 use Rattle.shape.specs.Shape.{shape, rate_of, count_of}
 use Rattle.shape.specs.declared.FrameShape.{FrameShape}
-use Rattle.shape.proofs.Shapes.{rate_le, rate_back, count_back, count_le}
+use Rattle.shape.proofs.Shapes.{rate_le, count_back, count_le}
 use Rattle.decoder.proofs.Between.{between, between-back}
 use Rattle.plc.specs.Conceal.{Voice, voice_of, lag_of, excited_times, faded_voice, voices}
+use Rattle.plc.proofs.Numbers.{frame_times}
 use Rattle.plc.proofs.Excite.{room}
 use Rattle.plc.proofs.Pitch.{Pitched, voices_pitch}
 use Rattle.plc.proofs.conceal.subframes.Goals.{In-loop-j}
@@ -27,8 +28,8 @@ fit : (c : In-loop-j) → Fit c.args.frame c.ltp_mem_length-mem.result c.subfr_l
 fit c =
     let f = c.args.frame in
     let r = rate_le f.fs_khz in
-    let m : c.ltp_mem_length-mem.result ≡ 20 * rate_of f.fs_khz = c.ltp_mem_length-mem.ensures ∙ rw (rate_back f.fs_khz f.rate) in
-    let s : c.subfr_length-l.result ≡ 5 * rate_of f.fs_khz = c.subfr_length-l.ensures ∙ rw (rate_back f.fs_khz f.rate) in
+    let m = frame_times f 20 c.ltp_mem_length-mem.ensures in
+    let s = frame_times f 5 c.subfr_length-l.ensures in
     let n : c.count_of-n.result ≡ count_of f.nb_subfr = c.count_of-n.ensures ∙ rw (count_back f.nb_subfr f.count) in
     record {
       mem_is = m;

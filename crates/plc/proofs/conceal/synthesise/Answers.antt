@@ -16,6 +16,7 @@ use Rattle.shape.specs.Order.{size}
 use Rattle.shape.specs.Shape.{rate_of, count_of, order_of}
 use Rattle.shape.specs.declared.FrameShape.{FrameShape}
 use Rattle.shape.proofs.Shapes.{shaped, rate_back, count_back}
+use Rattle.plc.proofs.Numbers.{frame_times}
 use Rattle.plc.proofs.Synthesis.{made_in, samples, memory_after}
 use Rattle.plc.proofs.conceal.synthesise.Goals.{After-frame_length-len}
 use Rattle.plc.proofs.conceal.synthesise.Goals as goal
@@ -31,7 +32,7 @@ record Lengths (f : FrameShape) (mem len : ℕ) : Type 0 where
 lengths : (c : After-frame_length-len) → Lengths c.args.frame c.ltp_mem_length-mem.result c.frame_length-len.result
 lengths c =
     let f = c.args.frame in
-    let m : c.ltp_mem_length-mem.result ≡ 20 * rate_of f.fs_khz = c.ltp_mem_length-mem.ensures ∙ rw (rate_back f.fs_khz f.rate) in
+    let m = frame_times f 20 c.ltp_mem_length-mem.ensures in
     let n : c.frame_length-len.result ≡ 5 * rate_of f.fs_khz * count_of f.nb_subfr = c.frame_length-len.ensures ∙ rw (rate_back f.fs_khz f.rate, count_back f.nb_subfr f.count) in
     let b = shaped f.fs_khz f.nb_subfr f.rate f.count in
     record {

@@ -1,4 +1,4 @@
-use Prim.Native.Nat.{ℕ, ◌*◌, ◌-◌, ◌≤◌}
+use Prim.Native.Nat.{ℕ, ◌-◌, ◌≤◌}
 use mathlib.Core.Path.{◌≡◌, ap, ◌∙◌}
 use mathlib.Core.List.{[], ◌∷◌, ◌++◌}
 use native.Mathlib.Omega.{arith}
@@ -13,6 +13,7 @@ use Rattle.shape.specs.Shape.{shape, rate_of, count_of, order_of}
 use Rattle.shape.proofs.Shapes.{rate_le, count_le, order_le}
 use Rattle.plc.specs.Update.{middle, pulse_of, plc_updated}
 use Rattle.plc.specs.declared.update.Pulse.{Pulse}
+use Rattle.plc.proofs.Numbers.{rate_times}
 use Rattle.plc.proofs.update.plc_updated.Goals.{After-count_of-n, After-lpc_order, After-pulse_of-b, After-subfr_length}
 use Rattle.plc.proofs.update.plc_updated.Goals as goal
 
@@ -28,12 +29,8 @@ some c = rw (count c) c.requires
 order : (c : After-lpc_order) → c.lpc_order.result ≡ order_of (rate_of c.args.khz)
 order c = c.lpc_order.ensures ∙ rw (to_z-of_z c.ranges.khz)
 
-sub : (c : After-subfr_length) → c.subfr_length.result ≡ 5 * rate_of c.args.khz
-sub c =
-    c.subfr_length.ensures ∙ rw (to_z-of_z c.ranges.khz)
-
 short : (c : After-subfr_length) → c.subfr_length.result ≤ 80
-short c = omega (arith, sub c, rate_le c.args.khz)
+short c = omega (arith, rate_times 5 (to_z-of_z c.ranges.khz) c.subfr_length.ensures, rate_le c.args.khz)
 
 -- the pulse
 found : (c : After-pulse_of-b) → let a = c.args in c.pulse_of-b.result ≡ pulse_of (shape a.khz a.nb_subfr) a.voiced a.c a.h.pitch_l_q8
@@ -69,5 +66,5 @@ returns c =
     let scale = got w16 c.low16.type_inv (c.low16.ensures ∙ ap wrap16 (kept w32 c.args.c.ltp_scale_q14 (search rules))) in
     let gains = c.last_gains.ensures ∙ ap (λ (n : ℕ). get_or c.args.c.gains_q16 (n - 2) (pos 0) ∷ get_or c.args.c.gains_q16 (n - 1) (pos 0) ∷ []) (count (goal.at.returns c).After-count_of-n) in
     let n = to_z_pos w32 {n = c.count_of-n.result} (omega (arith, few (goal.at.returns c).After-count_of-n)) ∙ ap pos (count (goal.at.returns c).After-count_of-n) in
-    let len = to_z_pos w32 {n = c.subfr_length.result} (omega (arith, short (goal.at.returns c).After-subfr_length)) ∙ ap pos (sub (goal.at.returns c).After-subfr_length) in
+    let len = to_z_pos w32 {n = c.subfr_length.result} (omega (arith, short (goal.at.returns c).After-subfr_length)) ∙ ap pos (rate_times 5 (to_z-of_z c.ranges.khz) c.subfr_length.ensures) in
     rw (pitch, taps, lpc, scale, gains, n, len) (search rules)

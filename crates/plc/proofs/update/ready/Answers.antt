@@ -8,7 +8,7 @@ use mir.Facts.{to_z-of_z, to_z_pos}
 use Rattle.shape.specs.Shape.{rate_of}
 use Rattle.shape.proofs.Shapes.{rate_le}
 use Rattle.plc.specs.Hold.{plc_ready, plc_reset}
-use Rattle.plc.proofs.Numbers.{same_number, other-number, frame_most}
+use Rattle.plc.proofs.Numbers.{same_number, other-number, rate_times, frame_most}
 use Rattle.plc.proofs.update.ready.Goals.{After-rate_of-rate, After-subfr_length}
 use Rattle.plc.proofs.update.ready.Goals as goal
 
@@ -18,13 +18,10 @@ rate c = c.rate_of-rate.ensures ∙ ap rate_of (to_z-of_z c.ranges.khz)
 slow : (c : After-rate_of-rate) → c.rate_of-rate.result ≤ 16
 slow c = rw (rate c) (rate_le c.args.khz)
 
--- the samples of a subframe, and of the frame
-sub : (c : After-subfr_length) → c.subfr_length.result ≡ 5 * rate_of c.args.khz
-sub c = c.subfr_length.ensures ∙ rw (to_z-of_z c.ranges.khz)
-
+-- the samples of the frame
 frame : (c : After-subfr_length) → c.subfr_length.result * c.args.subframes ≤ 320
 frame c =
-    rw (sub c) (frame_most (rate_of c.args.khz) c.args.subframes (rate_le c.args.khz) c.requires)
+    rw (rate_times 5 (to_z-of_z c.ranges.khz) c.subfr_length.ensures) (frame_most (rate_of c.args.khz) c.args.subframes (rate_le c.args.khz) c.requires)
 
 pub overflow_cast-rate : goal.overflow_cast-rate
 overflow_cast-rate c = let l = slow (goal.at.overflow_cast-rate c).After-rate_of-rate in search rules
@@ -56,6 +53,6 @@ returns c =
       to_z_pos w32 {n = c.subfr_length.result * n * 128} (omega (arith, frame (goal.at.returns c).After-subfr_length)),
       to_z_pos w32 {n = c.rate_of-rate.result} (omega (arith, slow (goal.at.returns c).After-rate_of-rate)),
       rate (goal.at.returns c).After-rate_of-rate,
-      sub (goal.at.returns c).After-subfr_length,
+      rate_times 5 (to_z-of_z c.ranges.khz) c.subfr_length.ensures,
     )
     (search rules)

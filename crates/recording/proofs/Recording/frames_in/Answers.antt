@@ -3,7 +3,7 @@ use Rattle.recording.proofs.Accepted.{lies, many, frames-back}
 use Rattle.recording.proofs.Recording.frames_in.Goals as goal
 
 pub invariant_of-result : goal.invariant_of-result
-invariant_of-result c = record { inside = lies c.args.bytes.now c.args.self.now c.requires }
+invariant_of-result c = record { inside = lies c.args.bytes.now c.args.self.now c.requires _ }
 
 pub returns : goal.returns
 returns c =
