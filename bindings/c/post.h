@@ -1,23 +1,25 @@
 /* The yard post's SILK back end: a frame's decoded parameters in, its samples out.
  *
  * `tools/staticlib post` builds it (target/staticlib/libpost.a), `tools/staticlib post_filters` the
- * functions of filters (target/staticlib/libpost_filters.a) and `tools/staticlib post_load` those of the
- * load (target/staticlib/libpost_load.a); any of the archives may be linked, alone or with others. They
+ * functions of filters (target/staticlib/libpost_filters.a), `tools/staticlib post_load` those of the
+ * load (target/staticlib/libpost_load.a) and `tools/staticlib post_recording` those of recordings
+ * (target/staticlib/libpost_recording.a); any of the archives may be linked, alone or with others. They
  * are for x86-64 Linux alone. They call memcpy, memmove and memset and nothing else, and have no
  * variables of their own: calls on different states may run at the same time. A call takes up to
- * 24,656 bytes of stack (docs/DESIGN-PASS.md).
+ * 24,656 bytes of stack (docs/DESIGN-PASS.md), and post_recording_play up to 52,784.
  *
  * A slice is a pointer and the count of its elements. The slices of one call may not overlap, not
  * even pulses and output: the proofs rest on it.
  *
  * Every function but post_played, post_load_leap and post_load_undoing answers one of
  *     0           done
- *    -1           a slice is shorter than its POST_ size below
+ *    -1           a slice is shorter than its POST_ size below; the functions of recordings answer
+ *                 21 in its place
  *     1 to 22     the first refusal that applies (enum post_refusal)
- * of which -1 comes first. Pulses, output, buffer, coefficients and lines have no such size: 10 to
- * 13, or 17 of post_rising, say that they are too short. A call that does not answer 0 writes
- * nothing. One that does leaves what lies past a slice's size, past a frame's samples, past a length
- * or past an order as it was.
+ * of which -1 comes first. Pulses that a frame is played with, output, buffer, coefficients and lines
+ * have no such size: 10 to 13, or 17 of post_rising, say that they are too short. A call that does not
+ * answer 0 writes nothing. One that does leaves what lies past a slice's size, past a frame's samples,
+ * past a length or past an order as it was.
  *
  * r is the rate in kHz and n the count of subframes: in post_frame those that the frame brings, in
  * the stages alone those that the state holds, which are post_set_up's or the last played frame's. A
@@ -60,7 +62,8 @@ enum {
     POST_COEFS = 68,
     POST_ANSWER = 2,
     POST_VALUE = 1,
-    POST_TEXT = 64
+    POST_TEXT = 64,
+    POST_HEAD = 62
 };
 
 /* The samples of the longest frame; pulses and output need no more, and 5rn are enough. */
@@ -118,6 +121,10 @@ enum post_refusal {
                               coefficients or lines is shorter than it */
     POST_SQUELCH = 14,     /* set-up: squelch not in 0 to 10,000; in a state it is 3 */
     POST_PLACE = 17,       /* cosine: place above 128; rising check: order not 10 or 16, or fewer lines */
+    POST_CHAIN = 20,       /* recording: a next number is past the end or met before, or there is no
+                              frame of the number */
+    POST_RECORD = 21,      /* recording: not 1 to 60 whole records, as read or as they would be
+                              written; a slice is too short; no YARD; a kind or zeros are wrong */
     POST_EDITION = 22      /* set-up, stability, filter: edition not 6716 or 8251; in a state it is 3 */
 };
 
@@ -229,6 +236,54 @@ int32_t post_load_leap(int32_t seed, uint64_t draws);
 
 /* The count of draws, 1 to 2^32, that undoes as many: after both the generator is where it was. */
 uint64_t post_load_undoing(uint64_t draws);
+
+/* The functions of recordings, in libpost_recording.a. docs/RECORDINGS.md has the form of the bytes and
+ * what to do about each refusal. They refuse in this order: 21 for a length or a slice that is too
+ * short, 20, the rest of 21, 1, 2, then the least of 5 to 9 that any frame of the chain meets. Bytes are
+ * lent whole and stay the caller's; nothing is kept between two calls. */
+enum {
+    POST_RECORD_BYTES = 1024, /* of each record */
+    POST_RECORDS = 60,        /* the most of a recording: record 0 and 59 frames */
+    POST_RECORD_PULSES = 320  /* of every received frame, also where 5rn is less */
+};
+
+/* What is told of a recording, POST_HEAD numbers. */
+enum {
+    POST_HEAD_RATE = 0,
+    POST_HEAD_SUBFRAMES = 1,
+    POST_HEAD_FRAMES = 2, /* how many there are, 0 to 59 */
+    POST_HEAD_RECORDS = 3 /* the record of each frame, in the chain's order, then zeros */
+};
+
+/* Reads a recording. Refused by 21, 20, 1, 2, 5 to 9. */
+int32_t post_recording_read(const uint8_t *bytes, size_t bytes_len, int32_t *head, size_t head_len);
+
+/* Frame number of a recording, counted from 1 along the chain: as it was lent to the call that played it.
+ * Of a lost one received is 0, rate and subframes are the recording's, and all else is 0. frame and coefs
+ * have their sizes, pulses has POST_RECORD_PULSES. Refused as post_recording_read, then by 20 for a number
+ * that is 0 or past the last. */
+int32_t post_recording_frame(const uint8_t *bytes, size_t bytes_len, uint32_t number,
+                             int32_t *frame, size_t frame_len, int16_t *coefs, size_t coefs_len,
+                             int16_t *pulses, size_t pulses_len);
+
+/* Makes the first POST_RECORD_BYTES a recording without frames. Refused by 21, 1, 2. */
+int32_t post_recording_begin(uint8_t *bytes, size_t bytes_len, int32_t rate, int32_t subframes);
+
+/* Writes a frame behind the first `frames` ones: record `frames` leads to the new record, which ends the
+ * chain. bytes must have room for frames + 2 records; the first frames + 2 records are then a recording,
+ * if the first frames + 1 were one that is in order. The frame brings record 0's rate and subframes. Of a
+ * lost one nothing else is read or kept, and pulses may be empty; a received one has POST_RECORD_PULSES.
+ * What stands in the records of earlier frames is not judged. Refused by 21, 1, 2, 5 to 9. */
+int32_t post_recording_append(uint8_t *bytes, size_t bytes_len, uint32_t frames,
+                              const int32_t *frame, size_t frame_len, const int16_t *coefs, size_t coefs_len,
+                              const int16_t *pulses, size_t pulses_len);
+
+/* Plays a recording by a post that is set up for its shape, with a squelch of 0 and the edition 8251. The
+ * first 5rn samples of output are those of the first frame, and so on; *played is their count. output must
+ * have 320 samples for every record of the file but the first, on the chain or not. Refused as
+ * post_recording_read. */
+int32_t post_recording_play(const uint8_t *bytes, size_t bytes_len, int16_t *output, size_t output_len,
+                            int32_t *played, size_t played_len);
 
 #ifdef __cplusplus
 }

@@ -1,17 +1,22 @@
-//! Links libpost.a and, with the feature `filters`, libpost_filters.a: `tools/staticlib` makes them under the repository's target/, or POST_LIBRARY
-//! names the first, beside which the second is to lie.
+//! Links libpost.a and the archive of each feature: `tools/staticlib` makes them under the repository's target/, or POST_LIBRARY names the first, beside
+//! which the others are to lie.
 
 use std::env;
 use std::fs;
 use std::path::{Path, PathBuf};
 use std::process::exit;
 
+/// Each feature that has an archive, as cargo writes it, and the archive's name.
+const FEATURES: [(&str, &str); 2] = [("FILTERS", "post_filters"), ("RECORDING", "post_recording")];
+
 fn main() {
     println!("cargo::rerun-if-env-changed=POST_LIBRARY");
     let library = library();
     link("post", &library);
-    if env::var_os("CARGO_FEATURE_FILTERS").is_some() {
-        link("post_filters", &library.with_file_name("libpost_filters.a"));
+    for (feature, name) in FEATURES {
+        if env::var_os(format!("CARGO_FEATURE_{feature}")).is_some() {
+            link(name, &library.with_file_name(format!("lib{name}.a")));
+        }
     }
 }
 

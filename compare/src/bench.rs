@@ -266,27 +266,43 @@ fn instructions(report: &str, file: &Path, function: &str) -> u64 {
 /// The bytes of stack that a call overwrites below its caller, which must have as much left as is painted. Nothing large may stand in
 /// this function's own frame.
 #[inline(never)]
-fn overwritten(player: &mut Player, call: Call<Line>, pattern: u64) -> usize {
+fn overwritten(call: impl FnOnce(), pattern: u64) -> usize {
     let here = 0u64;
     let top = &raw const here as usize - OWN_FRAME;
     let place = |at: usize| (top - 8 * at) as *mut u64;
     // All of these places lie between this function's frame and the end of its thread's stack.
     (1..PAINTED).for_each(|at| unsafe { place(at).write_volatile(pattern) });
-    unsafe { call(player.as_mut_ptr()) };
+    call();
     let found = (1..PAINTED).rev().find(|at| unsafe { place(*at).read_volatile() } != pattern);
     found.map_or(0, |at| OWN_FRAME + 8 * at)
 }
 
-/// The deepest stack of each call. Two patterns, since a call may write one of them itself.
+/// Two patterns, since a call may write one of them itself.
+const PATTERNS: [u64; 2] = [0xa5a5_a5a5_a5a5_a5a5, 0x5a5a_5a5a_5a5a_5a5a];
+
+/// What is measured on a thread whose stack has room for the painting.
+fn with_room<T: Send>(measure: impl FnOnce() -> T + Send) -> T {
+    thread::scope(|scope| thread::Builder::new().stack_size(STACK).spawn_scoped(scope, measure).unwrap().join().unwrap())
+}
+
+/// The bytes of stack that a call takes.
+pub fn stack_of(mut call: impl FnMut() + Send) -> usize {
+    with_room(|| PATTERNS.map(|pattern| overwritten(&mut call, pattern)).into_iter().max().unwrap_or(0))
+}
+
+/// The deepest stack of each call.
 fn depths(columns: &[Column]) -> Table {
     let deepest = |column: &Column, measured: usize| {
         let call = column.call(measured)?;
-        let patterns = [0xa5a5_a5a5_a5a5_a5a5, 0x5a5a_5a5a_5a5a_5a5a];
-        let of_player = |player: &Player| patterns.map(|pattern| overwritten(&mut player.clone(), call, pattern));
+        let of_player = |player: &Player| {
+            PATTERNS.map(|pattern| {
+                let mut player = player.clone();
+                overwritten(|| _ = unsafe { call(player.as_mut_ptr()) }, pattern)
+            })
+        };
         column.players[measured].iter().flat_map(of_player).max().map(|bytes| bytes as f64)
     };
-    let measure = || std::array::from_fn(|measured| columns.iter().map(|column| deepest(column, measured)).collect());
-    thread::scope(|scope| thread::Builder::new().stack_size(STACK).spawn_scoped(scope, measure).unwrap().join().unwrap())
+    with_room(|| std::array::from_fn(|measured| columns.iter().map(|column| deepest(column, measured)).collect()))
 }
 
 /// The processor's name, and the numbers that tell its kind where the name doesn't.

@@ -283,7 +283,7 @@ fn harm(before: &Call, after: &mut Call) {
 }
 
 /// How often each answer came.
-fn told(answers: &BTreeMap<i32, u64>) -> String {
+pub fn told(answers: &BTreeMap<i32, u64>) -> String {
     let each: Vec<String> = answers.iter().map(|(answer, count)| format!("{answer}: {count}")).collect();
     format!("answers {}", each.join(", "))
 }

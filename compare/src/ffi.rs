@@ -61,3 +61,47 @@ pub fn call(c: &mut Call) -> i32 {
         }
     }
 }
+
+// Yard recordings.
+
+#[rustfmt::skip]
+unsafe extern "C" {
+    fn post_recording_read(bytes: *const u8, bytes_len: usize, head: *mut i32, head_len: usize) -> i32;
+    fn post_recording_frame(bytes: *const u8, bytes_len: usize, number: u32, frame: *mut i32, frame_len: usize,
+        coefs: *mut i16, coefs_len: usize, pulses: *mut i16, pulses_len: usize) -> i32;
+    fn post_recording_begin(bytes: *mut u8, bytes_len: usize, rate: i32, subframes: i32) -> i32;
+    fn post_recording_append(bytes: *mut u8, bytes_len: usize, frames: u32, frame: *const i32, frame_len: usize,
+        coefs: *const i16, coefs_len: usize, pulses: *const i16, pulses_len: usize) -> i32;
+    fn post_recording_play(bytes: *const u8, bytes_len: usize, output: *mut i16, output_len: usize, played: *mut i32, played_len: usize) -> i32;
+}
+
+pub fn recording_read(bytes: &[u8], head: &mut [i32]) -> i32 {
+    unsafe { post_recording_read(bytes.as_ptr(), bytes.len(), head.as_mut_ptr(), head.len()) }
+}
+
+#[rustfmt::skip]
+pub fn recording_frame(bytes: &[u8], number: u32, frame: &mut [i32], coefs: &mut [i16], pulses: &mut [i16]) -> i32 {
+    unsafe {
+        post_recording_frame(bytes.as_ptr(), bytes.len(), number, frame.as_mut_ptr(), frame.len(),
+            coefs.as_mut_ptr(), coefs.len(), pulses.as_mut_ptr(), pulses.len())
+    }
+}
+
+pub fn recording_begin(bytes: &mut [u8], rate: i32, subframes: i32) -> i32 {
+    unsafe { post_recording_begin(bytes.as_mut_ptr(), bytes.len(), rate, subframes) }
+}
+
+#[rustfmt::skip]
+pub fn recording_append(bytes: &mut [u8], frames: u32, frame: &[i32], coefs: &[i16], pulses: &[i16]) -> i32 {
+    unsafe {
+        post_recording_append(bytes.as_mut_ptr(), bytes.len(), frames, frame.as_ptr(), frame.len(),
+            coefs.as_ptr(), coefs.len(), pulses.as_ptr(), pulses.len())
+    }
+}
+
+#[rustfmt::skip]
+pub fn recording_play(bytes: &[u8], output: &mut [i16], played: &mut [i32]) -> i32 {
+    unsafe {
+        post_recording_play(bytes.as_ptr(), bytes.len(), output.as_mut_ptr(), output.len(), played.as_mut_ptr(), played.len())
+    }
+}

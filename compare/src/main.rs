@@ -8,6 +8,7 @@ mod draw;
 mod ffi;
 mod firmware;
 mod library;
+mod load;
 #[allow(unused)]
 #[rustfmt::skip]
 mod mirror;
@@ -16,6 +17,8 @@ mod mirror;
 #[rustfmt::skip]
 #[path = "../../bindings/rust/src/lib.rs"]
 mod post;
+mod recording;
+mod recordings;
 mod reference;
 mod rows;
 mod shrink;
@@ -30,7 +33,7 @@ use std::path::{Path, PathBuf};
 use std::process::ExitCode;
 
 const USAGE: &str = "compare/run SOURCES [--seed S] [--from CASE] [--count N] [--streams STREAMS] [--self] [WHAT ...]";
-const OTHERS: [&str; 5] = ["rows", "lists", "streams", "firmware", "examples"];
+const OTHERS: [&str; 6] = ["rows", "lists", "recordings", "streams", "firmware", "examples"];
 
 fn main() -> ExitCode {
     let words: Vec<String> = std::env::args().skip(1).collect();
@@ -99,6 +102,10 @@ fn run(words: &[&str]) -> Result<bool, String> {
     let frames = options.has(What::Received) && options.has(What::Lost);
     if wanted("lists") {
         outcomes.push(if frames { options.lists() } else { absent("lists") });
+    }
+    if wanted("recordings") {
+        let linked = options.own || recordings::LINKED;
+        outcomes.push(if linked { options.recordings(files.as_deref().unwrap_or_default()) } else { absent("recordings") });
     }
     for name in ["streams", "firmware"].into_iter().filter(|name| wanted(name)) {
         match &files {

@@ -1,6 +1,7 @@
 //! The reference in the library's place: each exported function that the library lacks.
 
 use crate::reference::{self, Settings};
+use crate::recording;
 use std::slice::{from_raw_parts as part, from_raw_parts_mut as part_mut};
 
 type Longs = *mut i32;
@@ -90,4 +91,36 @@ unsafe extern "C" fn post_cosine(place: usize, v: Longs, vn: usize) -> i32 {
 #[unsafe(no_mangle)]
 unsafe extern "C" fn post_rising(l: Shorts, ln: usize, order: usize, r: Longs, rn: usize) -> i32 {
     unsafe { reference::post_rising(part(l, ln), order, part_mut(r, rn)) }
+}
+
+#[cfg(not(has_recording_read))]
+#[unsafe(no_mangle)]
+unsafe extern "C" fn post_recording_read(b: *const u8, bn: usize, h: Longs, hn: usize) -> i32 {
+    unsafe { recording::post_recording_read(part(b, bn), part_mut(h, hn)) }
+}
+
+#[cfg(not(has_recording_frame))]
+#[unsafe(no_mangle)]
+unsafe extern "C" fn post_recording_frame(b: *const u8, bn: usize, number: u32, f: Longs, fn_: usize, c: Shorts, cn: usize,
+    p: Shorts, pn: usize) -> i32 {
+    unsafe { recording::post_recording_frame(part(b, bn), number, part_mut(f, fn_), part_mut(c, cn), part_mut(p, pn)) }
+}
+
+#[cfg(not(has_recording_begin))]
+#[unsafe(no_mangle)]
+unsafe extern "C" fn post_recording_begin(b: *mut u8, bn: usize, rate: i32, subframes: i32) -> i32 {
+    unsafe { recording::post_recording_begin(part_mut(b, bn), rate, subframes) }
+}
+
+#[cfg(not(has_recording_append))]
+#[unsafe(no_mangle)]
+unsafe extern "C" fn post_recording_append(b: *mut u8, bn: usize, frames: u32, f: Longs, fn_: usize, c: Shorts, cn: usize,
+    p: Shorts, pn: usize) -> i32 {
+    unsafe { recording::post_recording_append(part_mut(b, bn), frames, part(f, fn_), part(c, cn), part(p, pn)) }
+}
+
+#[cfg(not(has_recording_play))]
+#[unsafe(no_mangle)]
+unsafe extern "C" fn post_recording_play(b: *const u8, bn: usize, o: Shorts, on: usize, p: Longs, pn: usize) -> i32 {
+    unsafe { recording::post_recording_play(part(b, bn), part_mut(o, on), part_mut(p, pn)) }
 }

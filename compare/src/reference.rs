@@ -254,9 +254,9 @@ fn keep(before: &SilkDecoderControl, after: &SilkDecoderControl, frame: &mut [i3
 
 // Document 01, "Why a frame is turned down": the first row that applies.
 
-type Judged = Result<(), i32>;
+pub type Judged = Result<(), i32>;
 
-fn unless(row: i32, fine: bool) -> Judged {
+pub fn unless(row: i32, fine: bool) -> Judged {
     if fine { Ok(()) } else { Err(row) }
 }
 
@@ -272,7 +272,7 @@ fn judge_count(subframes: i32) -> Judged {
     unless(2, [2, 4].contains(&subframes))
 }
 
-fn judge_shape(rate: i32, subframes: i32) -> Judged {
+pub fn judge_shape(rate: i32, subframes: i32) -> Judged {
     judge_rate(rate)?;
     judge_count(subframes)
 }
@@ -405,6 +405,18 @@ fn judge_description(dec: &SilkDecoderState, control: &SilkDecoderControl) -> Ju
     unless(8, (0..=16_384).contains(&control.ltp_scale_q14) && (!voiced || sums.all(|sum| (-32_768..=32_767).contains(&sum))))
 }
 
+/// Rows 5 to 9 of a received frame, at the shape that the state holds.
+fn judge_received(dec: &mut SilkDecoderState, frame: &Frame) -> Judged {
+    dec.indices = frame.indices();
+    judge_description(dec, &frame.control)?;
+    unless(9, none_negative(&frame.lines[..dec.lpc_order as usize]))
+}
+
+/// The same of a frame in numbers, at a shape.
+pub fn judge_numbers([rate, subframes]: [i32; 2], frame: &[i32], coefs: &[i16]) -> Judged {
+    judge_received(&mut set_up(rate, subframes), &read_frame(frame, coefs))
+}
+
 /// Rows 10 and 11.
 fn judge_room(row: i32, dec: &SilkDecoderState, lent: &[i16]) -> Judged {
     unless(row, lent.len() >= dec.frame_length as usize)
@@ -415,7 +427,7 @@ fn judge_length(buffer: &[i16], length: usize) -> Judged {
     unless(12, (1..=320).contains(&length) && length <= buffer.len())
 }
 
-fn answer(judged: impl FnOnce() -> Judged) -> i32 {
+pub fn answer(judged: impl FnOnce() -> Judged) -> i32 {
     judged().err().unwrap_or(0)
 }
 
@@ -466,9 +478,7 @@ pub fn post_frame(words: &mut [i32], halves: &mut [i16], frame: &mut [i32], coef
             judge_lost(&dec, output)?;
             FLAG_PACKET_LOST
         } else {
-            dec.indices = coder.indices;
-            judge_description(&dec, &brought.control)?;
-            unless(9, none_negative(&brought.lines[..dec.lpc_order as usize]))?;
+            judge_received(&mut dec, &brought)?;
             judge_room(10, &dec, pulses)?;
             judge_room(11, &dec, output)?;
             FLAG_DECODE_NORMAL

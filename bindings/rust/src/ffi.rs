@@ -14,6 +14,14 @@ pub const ANSWER: usize = 2;
 pub const VALUE: usize = 1;
 /// The bytes of a sentence.
 pub const TEXT: usize = 64;
+/// The bytes of a recording's record.
+pub const RECORD: usize = 1_024;
+/// The records of the longest recording.
+pub const RECORDS: usize = 60;
+/// What is told of a recording: rate, subframes, count of frames, and the frames' records.
+pub const HEAD: usize = 62;
+/// A recorded frame's pulses, which are the samples of the longest frame.
+pub const PULSES: usize = 320;
 
 /// Where some of the state's numbers stand in its slice of [`WORDS`].
 pub mod words {
@@ -107,6 +115,23 @@ unsafe extern "C" {
     ) -> i32;
     fn post_cosine(place: usize, value: *mut i32, value_len: usize) -> i32;
     fn post_rising(lines: *const i16, lines_len: usize, order: usize, answer: *mut i32, answer_len: usize) -> i32;
+}
+
+#[cfg(feature = "recording")]
+unsafe extern "C" {
+    fn post_recording_read(bytes: *const u8, bytes_len: usize, head: *mut i32, head_len: usize) -> i32;
+    fn post_recording_frame(
+        bytes: *const u8, bytes_len: usize, number: u32, frame: *mut i32, frame_len: usize, coefs: *mut i16, coefs_len: usize,
+        pulses: *mut i16, pulses_len: usize,
+    ) -> i32;
+    fn post_recording_begin(bytes: *mut u8, bytes_len: usize, rate: i32, subframes: i32) -> i32;
+    fn post_recording_append(
+        bytes: *mut u8, bytes_len: usize, frames: u32, frame: *const i32, frame_len: usize, coefs: *const i16, coefs_len: usize,
+        pulses: *const i16, pulses_len: usize,
+    ) -> i32;
+    fn post_recording_play(
+        bytes: *const u8, bytes_len: usize, output: *mut i16, output_len: usize, played: *mut i32, played_len: usize,
+    ) -> i32;
 }
 
 /// `post_set_up`.
@@ -220,4 +245,50 @@ pub fn cosine(place: usize, value: &mut [i32]) -> i32 {
 pub fn rising(lines: &[i16], order: usize, answer: &mut [i32]) -> i32 {
     // SAFETY: each pointer is lent with its own slice's length, for the call alone.
     unsafe { post_rising(lines.as_ptr(), lines.len(), order, answer.as_mut_ptr(), answer.len()) }
+}
+
+/// `post_recording_read`.
+#[cfg(feature = "recording")]
+pub fn recording_read(bytes: &[u8], head: &mut [i32]) -> i32 {
+    // SAFETY: each pointer is lent with its own slice's length, for the call alone.
+    unsafe { post_recording_read(bytes.as_ptr(), bytes.len(), head.as_mut_ptr(), head.len()) }
+}
+
+/// `post_recording_frame`.
+#[cfg(feature = "recording")]
+pub fn recording_frame(bytes: &[u8], number: u32, frame: &mut [i32], coefs: &mut [i16], pulses: &mut [i16]) -> i32 {
+    // SAFETY: each pointer is lent with its own slice's length, for the call alone.
+    unsafe {
+        post_recording_frame(
+            bytes.as_ptr(), bytes.len(), number, frame.as_mut_ptr(), frame.len(), coefs.as_mut_ptr(), coefs.len(),
+            pulses.as_mut_ptr(), pulses.len(),
+        )
+    }
+}
+
+/// `post_recording_begin`.
+#[cfg(feature = "recording")]
+pub fn recording_begin(bytes: &mut [u8], rate: i32, subframes: i32) -> i32 {
+    // SAFETY: the pointer is lent with its own slice's length, for the call alone.
+    unsafe { post_recording_begin(bytes.as_mut_ptr(), bytes.len(), rate, subframes) }
+}
+
+/// `post_recording_append`.
+#[cfg(feature = "recording")]
+pub fn recording_append(bytes: &mut [u8], frames: u32, frame: &[i32], coefs: &[i16], pulses: &[i16]) -> i32 {
+    // SAFETY: each pointer is lent with its own slice's length, for the call alone.
+    unsafe {
+        post_recording_append(
+            bytes.as_mut_ptr(), bytes.len(), frames, frame.as_ptr(), frame.len(), coefs.as_ptr(), coefs.len(), pulses.as_ptr(), pulses.len(),
+        )
+    }
+}
+
+/// `post_recording_play`.
+#[cfg(feature = "recording")]
+pub fn recording_play(bytes: &[u8], output: &mut [i16], played: &mut [i32]) -> i32 {
+    // SAFETY: each pointer is lent with its own slice's length, for the call alone.
+    unsafe {
+        post_recording_play(bytes.as_ptr(), bytes.len(), output.as_mut_ptr(), output.len(), played.as_mut_ptr(), played.len())
+    }
 }

@@ -2,9 +2,10 @@
 //!
 //! [`Post`] owns a decoder's state. A frame is played by [`Post::received`] or [`Post::lost`]; one that the
 //! back end turns down leaves the state, the description and the output as they were. A call takes up to 24,656
-//! bytes of stack. The library, which `tools/staticlib post` builds or POST_LIBRARY names, is for x86-64 Linux alone. With the feature `filters`,
-//! which is on unless it is turned off, `tools/staticlib post_filters` builds the functions of filters: [`stability`], [`sentence`], [`filter`],
-//! [`cosine`] and [`is_rising`].
+//! bytes of stack, [`Recording::play`] up to 52,784. The library, which `tools/staticlib post` builds or POST_LIBRARY names, is for x86-64 Linux
+//! alone. Features, which are on unless they are turned off, have archives of their own: `filters`, which `tools/staticlib post_filters` builds,
+//! has [`stability`], [`sentence`], [`filter`], [`cosine`] and [`is_rising`]; `recording`, by `tools/staticlib post_recording`, has [`Recording`]
+//! and [`Writer`].
 //!
 //! ```
 //! use post::{Description, Params, Post, Shape};
@@ -29,9 +30,13 @@ pub mod ffi;
 
 #[cfg(feature = "filters")]
 mod filters;
+#[cfg(feature = "recording")]
+mod recording;
 
 #[cfg(feature = "filters")]
 pub use filters::{Sentence, Stability, cosine, filter, is_rising, sentence, stability};
+#[cfg(feature = "recording")]
+pub use recording::{Recording, Writer};
 
 use core::fmt;
 
@@ -69,13 +74,18 @@ pub enum Refusal {
     Squelch = 14,
     /// The place of a cosine is above 128; or the rising check's order is not 10 or 16, or its slice is shorter.
     Place = 17,
+    /// A recording: a next number is past the end or met before, or there is no frame of the number.
+    Chain = 20,
+    /// A recording: its length is not that of 1 to 60 records, or would not be; a slice is too short; record 0 has no mark; or a kind or the
+    /// zeros of a record are wrong.
+    Record = 21,
     /// Set-up, stability test or filter from lines: the edition is neither 6716 nor 8251. No [`Edition`] gives it.
     Edition = 22,
 }
 
 impl Refusal {
     /// Every refusal, in the order of their numbers.
-    pub const ALL: [Refusal; 16] = [
+    pub const ALL: [Refusal; 18] = [
         Refusal::Rate,
         Refusal::Size,
         Refusal::History,
@@ -91,6 +101,8 @@ impl Refusal {
         Refusal::Order,
         Refusal::Squelch,
         Refusal::Place,
+        Refusal::Chain,
+        Refusal::Record,
         Refusal::Edition,
     ];
 
@@ -122,6 +134,8 @@ impl Refusal {
             Refusal::Order => "order",
             Refusal::Squelch => "squelch",
             Refusal::Place => "place",
+            Refusal::Chain => "chain",
+            Refusal::Record => "record",
             Refusal::Edition => "edition",
         }
     }
@@ -212,6 +226,17 @@ pub struct Description {
     pub nlsf_q15: [i16; 16],
 }
 
+/// A frame with all of its numbers, as a recording keeps it.
+#[derive(Clone, PartialEq, Eq, Debug)]
+pub struct Frame {
+    /// Its small numbers.
+    pub params: Params,
+    /// Its description.
+    pub description: Description,
+    /// Its pulses; those past 5rn are not played.
+    pub pulses: [i16; ffi::PULSES],
+}
+
 /// A frame in numbers, as the library takes it.
 struct Numbers {
     frame: [i32; ffi::FRAME],
@@ -237,6 +262,19 @@ impl Numbers {
         coefs[ffi::coefs::ROWS..ffi::coefs::LINES].copy_from_slice(description.pred_coef_q12.as_flattened());
         coefs[ffi::coefs::LINES..].copy_from_slice(&description.nlsf_q15);
         Numbers { frame, coefs }
+    }
+
+    /// The frame that the library gives in numbers.
+    #[cfg(feature = "recording")]
+    fn frame(&self, pulses: [i16; ffi::PULSES]) -> Frame {
+        let [signal_type, quant_offset_type, nlsf_interp_coef_q2, seed] =
+            [ffi::frame::SIGNAL, ffi::frame::OFFSET, ffi::frame::INTERPOLATION, ffi::frame::SEED].map(|place| self.frame[place] as i8);
+        let mut description = Description { ltp_scale_q14: self.frame[ffi::frame::SCALE], ..Description::default() };
+        self.left(&mut description);
+        description.gains_q16.copy_from_slice(&self.frame[ffi::frame::GAINS..ffi::frame::SCALE]);
+        description.pred_coef_q12.as_flattened_mut().copy_from_slice(&self.coefs[ffi::coefs::ROWS..ffi::coefs::LINES]);
+        description.nlsf_q15.copy_from_slice(&self.coefs[ffi::coefs::LINES..]);
+        Frame { params: Params { signal_type, quant_offset_type, nlsf_interp_coef_q2, seed }, description, pulses }
     }
 
     /// What a call may have written: the lags and the taps.

@@ -2,7 +2,8 @@
 
 use post::ffi::words::{EDITION, LOSS_CNT, SQUELCH};
 use post::{
-    Description, Edition, Params, Post, Refusal, Settings, Shape, Stability, cosine, ffi, filter, is_rising, played, sentence, stability,
+    Description, Edition, Params, Post, Recording, Refusal, Settings, Shape, Stability, cosine, ffi, filter, is_rising, played, sentence,
+    stability,
 };
 
 const NARROW: Shape = Shape { rate: 8, subframes: 2 };
@@ -37,8 +38,8 @@ fn refused(params: Params, description: Description, pulses: usize, output: usiz
 
 #[test]
 fn numbers_and_words() {
-    let words = "rate, size, history, run full, signal, gain, lag, taps, line, pulses, speaker, length, order, squelch, place, edition";
-    let listed: Vec<(i32, &str)> = (1..=14).chain([17, 22]).zip(words.split(", ")).collect();
+    let words = "rate, size, history, run full, signal, gain, lag, taps, line, pulses, speaker, length, order, squelch, place, chain, record, edition";
+    let listed: Vec<(i32, &str)> = (1..=14).chain([17, 20, 21, 22]).zip(words.split(", ")).collect();
     assert_eq!(Refusal::ALL.map(|why| (why.number(), why.word())).to_vec(), listed);
     assert_eq!(Refusal::ALL.map(|why| Refusal::of(why.number())), Refusal::ALL.map(Some));
     assert_eq!([-1, 0, 99].map(Refusal::of), [None; 3]);
@@ -63,6 +64,8 @@ fn each_refusal() {
         stability(&[0; 16], 17, Edition::Rfc8251).unwrap_err(),
         Post::set_up_with(WIDE, squelched(10_001)).unwrap_err(),
         cosine(129).unwrap_err(),
+        Recording::read(&[1; 1_024]).unwrap_err(),
+        Recording::read(&[0; 1_024]).unwrap_err(),
         Refusal::of(ffi::set_up_with(16, 4, 0, 8_250, &mut [0; ffi::WORDS], &mut [0; ffi::HALVES])).unwrap(),
     ];
     assert_eq!(found, Refusal::ALL);

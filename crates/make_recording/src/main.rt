@@ -2,29 +2,10 @@
 // standard error the report, whose last line counts the frames, or says why there is no recording.
 #![tactic(auto)]
 
-use decoder::Frame;
 use record::Record;
-use recorder::{append_lost, append_received, begin};
-use refusal::Refusal;
+use recorder::{append, begin};
 use std::io::{self, Read, Write};
 use stream::{Head, Told};
-
-fn add(out: &mut [u8], i: usize, rate: i32, subframes: i32, r: &Record) -> Result<(), Refusal> {
-    match r.frame() {
-        Frame::Lost => append_lost(out, i, rate, subframes),
-        Frame::Received(q) => append_received(
-            out,
-            i,
-            rate,
-            subframes,
-            q,
-            r.control(),
-            r.rows(),
-            r.lines(),
-            &r.pulses(),
-        ),
-    }
-}
 
 fn record_stream(
     input: &mut impl Read,
@@ -47,7 +28,7 @@ fn record_stream(
             Err(unread) => return writeln!(err, "{unread}"),
         };
         let r = Record { bytes: &bytes };
-        if let Err(refusal) = add(&mut out, i as usize, rate, subframes, &r) {
+        if let Err(refusal) = append(&mut out, i as usize, rate, subframes, &r) {
             let number = refusal.number();
             return writeln!(err, "frame {i} refused: {number} {refusal}");
         }

@@ -1,17 +1,17 @@
 // Yard recordings: the writer, which refuses what the reader would. A refused call writes nothing.
-// Inner: every function but begin, append_lost and append_received.
+// Inner: every function but begin, append_lost, append_received and append.
 #![tactic(auto)]
 
 ghost use Rattle.std.specs.Prelude.{◌≡◌, true, suc, ◌+◌, ◌*◌, ◌≤◌, pos, length};
 ghost use Rattle.le.specs.Bytes.{bytes_of, with_bytes};
 ghost use Rattle.refusal.specs.First.{first_of};
-ghost use Rattle.record.specs.Recorded.{lost, received};
+ghost use Rattle.record.specs.Recorded.{lost, received, recorded_in};
 ghost use Rattle.recorder.specs.Writing.{head_bytes, frame_bytes, has_room, head_rows, begin_refusal, begin_of, append_of};
 
-use decoder::{Params, SilkDecoderControl};
+use decoder::{Frame, Params, SilkDecoderControl};
 use judge::description;
 use le::{Word, low_byte, put_bytes, put_zeros};
-use record::put_received;
+use record::{Record, put_received};
 use recording::{MARK, is_head};
 use refusal::{Refusal, refuse_if};
 
@@ -134,4 +134,31 @@ pub fn append_received(
     link(bytes, frames);
     put_frame(bytes, 1024 * (frames + 1), q, c, rows, lines, pulses);
     Ok(())
+}
+
+// One frame more, by its record.
+#[tactic(auto, unfolding(record::specs::Recorded::recorded_in, record::specs::Record::frame_in))]
+pub fn append(
+    bytes: &mut [u8],
+    frames: usize,
+    rate: i32,
+    subframes: i32,
+    r: &Record,
+) -> Result<(), Refusal>
+    ensures { record { judged = result; bytes = bytes.new } ≡ append_of rate subframes bytes.old frames (recorded_in r.now.bytes.now) }
+{
+    match r.frame() {
+        Frame::Lost => append_lost(bytes, frames, rate, subframes),
+        Frame::Received(q) => append_received(
+            bytes,
+            frames,
+            rate,
+            subframes,
+            q,
+            r.control(),
+            r.rows(),
+            r.lines(),
+            &r.pulses(),
+        ),
+    }
 }

@@ -93,7 +93,10 @@ impl fmt::Display for Told {
                     "no stream: its frames have {n} subframes; {done} are 2 and 4"
                 )
             }
-            Unplayed::Long => f.write_str("the stream is too long for a WAV file"),
+            Unplayed::Long => write!(
+                f,
+                "the stream has more samples than fit into a WAV file; {done} are shorter ones"
+            ),
         }
     }
 }

@@ -1,0 +1,5 @@
+-- The laws that the proofs cite.
+pub mod Sizes
+pub mod Told
+pub mod Ends
+pub mod Played

@@ -1,0 +1,4 @@
+-- The definitions that the contracts cite.
+pub mod Sizes
+pub mod Reading
+pub mod Writing
