@@ -12,7 +12,7 @@ if [ "${2:-}" = --self ]; then
 else
     mkdir -p "$target"
     log=$target/staticlib.log
-    for crate in post post_filters post_recording; do
+    for crate in post post_filters post_recording post_load; do
         echo "compare: tools/staticlib $crate proves and builds the library" >&2
         "$top/tools/staticlib" "$crate" >"$log" 2>&1 || { cat "$log" >&2; exit 1; }
         POST_LIBRARIES=${POST_LIBRARIES:+$POST_LIBRARIES:}$top/target/staticlib/lib$crate.a

@@ -7,7 +7,7 @@ use std::path::{Path, PathBuf};
 use std::process::exit;
 
 /// Each feature that has an archive, as cargo writes it, and the archive's name.
-const FEATURES: [(&str, &str); 2] = [("FILTERS", "post_filters"), ("RECORDING", "post_recording")];
+const FEATURES: [(&str, &str); 3] = [("FILTERS", "post_filters"), ("RECORDING", "post_recording"), ("LOAD", "post_load")];
 
 fn main() {
     println!("cargo::rerun-if-env-changed=POST_LIBRARY");

@@ -30,7 +30,7 @@ impl Options {
     }
 
     /// Makes a call of both: the Rust's answer and what it left, or the first difference.
-    fn both(&self, before: &Call) -> Result<(i32, Call), String> {
+    pub fn both(&self, before: &Call) -> Result<(i32, Call), String> {
         let (mut rust, mut library) = (before.clone(), before.clone());
         let expected = call::reference(&mut rust);
         if expected == STOPPED {

@@ -105,3 +105,29 @@ pub fn recording_play(bytes: &[u8], output: &mut [i16], played: &mut [i32]) -> i
         post_recording_play(bytes.as_ptr(), bytes.len(), output.as_mut_ptr(), output.len(), played.as_mut_ptr(), played.len())
     }
 }
+
+// The load.
+
+#[rustfmt::skip]
+unsafe extern "C" {
+    fn post_load_frame(rate: i32, subframes: i32, seed: i32, number: u32, frame: *mut i32, frame_len: usize,
+        coefs: *mut i16, coefs_len: usize, pulses: *mut i16, pulses_len: usize) -> i32;
+    fn post_load_leap(seed: i32, draws: u64) -> i32;
+    fn post_load_undoing(draws: u64) -> u64;
+}
+
+#[rustfmt::skip]
+pub fn load_frame(rate: i32, subframes: i32, seed: i32, number: u32, frame: &mut [i32], coefs: &mut [i16], pulses: &mut [i16]) -> i32 {
+    unsafe {
+        post_load_frame(rate, subframes, seed, number, frame.as_mut_ptr(), frame.len(),
+            coefs.as_mut_ptr(), coefs.len(), pulses.as_mut_ptr(), pulses.len())
+    }
+}
+
+pub fn load_leap(seed: i32, draws: u64) -> i32 {
+    unsafe { post_load_leap(seed, draws) }
+}
+
+pub fn load_undoing(draws: u64) -> u64 {
+    unsafe { post_load_undoing(draws) }
+}

@@ -1,4 +1,4 @@
-//! Frames that are drawn from a seed, for recordings: those of a load (document 02, Note 11).
+//! The load (document 02, Note 11), drawn apart from the library: each draw by itself, and leaps by the sum of a geometric row.
 
 use crate::post::ffi::{COEFS, FRAME, coefs, frame};
 use crate::recording::{PULSES, Recorded};
@@ -6,6 +6,10 @@ use crate::recording::{PULSES, Recorded};
 /// The step of `silk_rand`.
 const FACTOR: u32 = 196_314_165;
 const TERM: u32 = 907_633_515;
+/// The draws of a frame.
+pub const DRAWS: u64 = 402;
+/// The frames of the longest load.
+pub const LONGEST: u32 = 2_147_483_647;
 
 /// The generator, of which a draw is the value after its step.
 #[derive(Clone, Copy)]
@@ -41,6 +45,23 @@ impl Generator {
         drawn.pulses.fill_with(|| self.scaled(-32_768, 65_536) as i16);
         drawn
     }
+}
+
+/// The generator after many draws: with f the factor, f^k times the seed and the term times 1 + f + .. + f^(k - 1), which is (f^k - 1)/(f - 1).
+/// The power is taken modulo (f - 1) 2^32, so that the quotient is exact modulo 2^32.
+pub fn after(seed: i32, draws: u64) -> Generator {
+    let below = u128::from(FACTOR - 1);
+    let modulus = below << 32;
+    let (mut power, mut square, mut left) = (1u128, u128::from(FACTOR), draws);
+    while left > 0 {
+        if left % 2 == 1 {
+            power = power * square % modulus;
+        }
+        square = square * square % modulus;
+        left /= 2;
+    }
+    let row = (power + modulus - 1) % modulus / below;
+    Generator((power as u32).wrapping_mul(seed as u32).wrapping_add((row as u32).wrapping_mul(TERM)))
 }
 
 /// The first frames of a load as a recording keeps them: of a lost one the shape alone.

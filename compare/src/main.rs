@@ -9,6 +9,7 @@ mod ffi;
 mod firmware;
 mod library;
 mod load;
+mod loads;
 #[allow(unused)]
 #[rustfmt::skip]
 mod mirror;
@@ -33,7 +34,7 @@ use std::path::{Path, PathBuf};
 use std::process::ExitCode;
 
 const USAGE: &str = "compare/run SOURCES [--seed S] [--from CASE] [--count N] [--streams STREAMS] [--self] [WHAT ...]";
-const OTHERS: [&str; 6] = ["rows", "lists", "recordings", "streams", "firmware", "examples"];
+const OTHERS: [&str; 7] = ["rows", "lists", "recordings", "load", "streams", "firmware", "examples"];
 
 fn main() -> ExitCode {
     let words: Vec<String> = std::env::args().skip(1).collect();
@@ -106,6 +107,10 @@ fn run(words: &[&str]) -> Result<bool, String> {
     if wanted("recordings") {
         let linked = options.own || recordings::LINKED;
         outcomes.push(if linked { options.recordings(files.as_deref().unwrap_or_default()) } else { absent("recordings") });
+    }
+    if wanted("load") {
+        let linked = options.own || loads::LINKED;
+        outcomes.push(if linked { options.load() } else { absent("load") });
     }
     for name in ["streams", "firmware"].into_iter().filter(|name| wanted(name)) {
         match &files {

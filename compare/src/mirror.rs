@@ -1,7 +1,7 @@
 //! The reference in the library's place: each exported function that the library lacks.
 
 use crate::reference::{self, Settings};
-use crate::recording;
+use crate::{loads, recording};
 use std::slice::{from_raw_parts as part, from_raw_parts_mut as part_mut};
 
 type Longs = *mut i32;
@@ -123,4 +123,23 @@ unsafe extern "C" fn post_recording_append(b: *mut u8, bn: usize, frames: u32, f
 #[unsafe(no_mangle)]
 unsafe extern "C" fn post_recording_play(b: *const u8, bn: usize, o: Shorts, on: usize, p: Longs, pn: usize) -> i32 {
     unsafe { recording::post_recording_play(part(b, bn), part_mut(o, on), part_mut(p, pn)) }
+}
+
+#[cfg(not(has_load_frame))]
+#[unsafe(no_mangle)]
+unsafe extern "C" fn post_load_frame(rate: i32, subframes: i32, seed: i32, number: u32, f: Longs, fn_: usize, c: Shorts, cn: usize,
+    p: Shorts, pn: usize) -> i32 {
+    unsafe { loads::post_load_frame(rate, subframes, seed, number, part_mut(f, fn_), part_mut(c, cn), part_mut(p, pn)) }
+}
+
+#[cfg(not(has_load_leap))]
+#[unsafe(no_mangle)]
+unsafe extern "C" fn post_load_leap(seed: i32, draws: u64) -> i32 {
+    loads::post_load_leap(seed, draws)
+}
+
+#[cfg(not(has_load_undoing))]
+#[unsafe(no_mangle)]
+unsafe extern "C" fn post_load_undoing(draws: u64) -> u64 {
+    loads::post_load_undoing(draws)
 }

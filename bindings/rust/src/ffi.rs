@@ -134,6 +134,16 @@ unsafe extern "C" {
     ) -> i32;
 }
 
+#[cfg(feature = "load")]
+unsafe extern "C" {
+    fn post_load_frame(
+        rate: i32, subframes: i32, seed: i32, number: u32, frame: *mut i32, frame_len: usize, coefs: *mut i16, coefs_len: usize,
+        pulses: *mut i16, pulses_len: usize,
+    ) -> i32;
+    fn post_load_leap(seed: i32, draws: u64) -> i32;
+    fn post_load_undoing(draws: u64) -> u64;
+}
+
 /// `post_set_up`.
 pub fn set_up(rate: i32, subframes: i32, words: &mut [i32], halves: &mut [i16]) -> i32 {
     // SAFETY: each pointer is lent with its own slice's length, for the call alone.
@@ -291,4 +301,30 @@ pub fn recording_play(bytes: &[u8], output: &mut [i16], played: &mut [i32]) -> i
     unsafe {
         post_recording_play(bytes.as_ptr(), bytes.len(), output.as_mut_ptr(), output.len(), played.as_mut_ptr(), played.len())
     }
+}
+
+/// `post_load_frame`.
+#[cfg(feature = "load")]
+pub fn load_frame(rate: i32, subframes: i32, seed: i32, number: u32, frame: &mut [i32], coefs: &mut [i16], pulses: &mut [i16]) -> i32 {
+    // SAFETY: each pointer is lent with its own slice's length, for the call alone.
+    unsafe {
+        post_load_frame(
+            rate, subframes, seed, number, frame.as_mut_ptr(), frame.len(), coefs.as_mut_ptr(), coefs.len(),
+            pulses.as_mut_ptr(), pulses.len(),
+        )
+    }
+}
+
+/// `post_load_leap`.
+#[cfg(feature = "load")]
+pub fn load_leap(seed: i32, draws: u64) -> i32 {
+    // SAFETY: no pointer is lent.
+    unsafe { post_load_leap(seed, draws) }
+}
+
+/// `post_load_undoing`.
+#[cfg(feature = "load")]
+pub fn load_undoing(draws: u64) -> u64 {
+    // SAFETY: no pointer is lent.
+    unsafe { post_load_undoing(draws) }
 }

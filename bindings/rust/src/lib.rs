@@ -5,7 +5,7 @@
 //! bytes of stack, [`Recording::play`] up to 52,784. The library, which `tools/staticlib post` builds or POST_LIBRARY names, is for x86-64 Linux
 //! alone. Features, which are on unless they are turned off, have archives of their own: `filters`, which `tools/staticlib post_filters` builds,
 //! has [`stability`], [`sentence`], [`filter`], [`cosine`] and [`is_rising`]; `recording`, by `tools/staticlib post_recording`, has [`Recording`]
-//! and [`Writer`].
+//! and [`Writer`]; `load`, by `tools/staticlib post_load`, has [`Load`], [`leap`] and [`undoing`].
 //!
 //! ```
 //! use post::{Description, Params, Post, Shape};
@@ -30,11 +30,15 @@ pub mod ffi;
 
 #[cfg(feature = "filters")]
 mod filters;
+#[cfg(feature = "load")]
+mod load;
 #[cfg(feature = "recording")]
 mod recording;
 
 #[cfg(feature = "filters")]
 pub use filters::{Sentence, Stability, cosine, filter, is_rising, sentence, stability};
+#[cfg(feature = "load")]
+pub use load::{Drawn, Load, leap, undoing};
 #[cfg(feature = "recording")]
 pub use recording::{Recording, Writer};
 
@@ -66,7 +70,7 @@ pub enum Refusal {
     Pulses = 10,
     /// Fewer than 5rn output samples were lent.
     Speaker = 11,
-    /// Gluing or noise alone: the length is 0, above 320 or above the buffer.
+    /// Gluing or noise alone: the length is 0, above 320 or above the buffer. A load: the frame's number is above 2,147,483,646.
     Length = 12,
     /// Stability test or filter from lines: the order is none, or a slice is shorter than it.
     Order = 13,
@@ -226,7 +230,7 @@ pub struct Description {
     pub nlsf_q15: [i16; 16],
 }
 
-/// A frame with all of its numbers, as a recording keeps it.
+/// A frame with all of its numbers, as a recording keeps it or a load draws it.
 #[derive(Clone, PartialEq, Eq, Debug)]
 pub struct Frame {
     /// Its small numbers.
@@ -265,7 +269,7 @@ impl Numbers {
     }
 
     /// The frame that the library gives in numbers.
-    #[cfg(feature = "recording")]
+    #[cfg(any(feature = "recording", feature = "load"))]
     fn frame(&self, pulses: [i16; ffi::PULSES]) -> Frame {
         let [signal_type, quant_offset_type, nlsf_interp_coef_q2, seed] =
             [ffi::frame::SIGNAL, ffi::frame::OFFSET, ffi::frame::INTERPOLATION, ffi::frame::SEED].map(|place| self.frame[place] as i8);
