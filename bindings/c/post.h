@@ -6,7 +6,8 @@
  * (target/staticlib/libpost_recording.a); any of the archives may be linked, alone or with others. They
  * are for x86-64 Linux alone. They call memcpy, memmove and memset and nothing else, and have no
  * variables of their own: calls on different states may run at the same time. A call takes up to
- * 24,656 bytes of stack (docs/DESIGN-PASS.md), and post_recording_play up to 52,784.
+ * 24,656 bytes of stack (docs/DESIGN-PASS.md), post_recording_play up to 69,192 and
+ * post_single_loss up to 85,480.
  *
  * A slice is a pointer and the count of its elements. The slices of one call may not overlap, not
  * even pulses and output: the proofs rest on it.
@@ -15,7 +16,7 @@
  *     0           done
  *    -1           a slice is shorter than its POST_ size below; the functions of recordings answer
  *                 21 in its place
- *     1 to 22     the first refusal that applies (enum post_refusal)
+ *     1 to 23     the first refusal that applies (enum post_refusal)
  * of which -1 comes first. Pulses that a frame is played with, output, buffer, coefficients and lines
  * have no such size: 10 to 13, or 17 of post_rising, say that they are too short. A call that does not
  * answer 0 writes nothing. One that does leaves what lies past a slice's size, past a frame's samples,
@@ -125,7 +126,9 @@ enum post_refusal {
                               frame of the number */
     POST_RECORD = 21,      /* recording: not 1 to 60 whole records, as read or as they would be
                               written; a slice is too short; no YARD; a kind or zeros are wrong */
-    POST_EDITION = 22      /* set-up, stability, filter: edition not 6716 or 8251; in a state it is 3 */
+    POST_EDITION = 22,     /* set-up, stability, filter: edition not 6716 or 8251; in a state it is 3 */
+    POST_LIMIT = 23        /* single loss: limit not in 1 to 32,767, or the call as recorded already has
+                              a sample beyond it */
 };
 
 /* Editions of the standard, by the number of their RFC. In the stability test under RFC 6716 as first
@@ -284,6 +287,13 @@ int32_t post_recording_append(uint8_t *bytes, size_t bytes_len, uint32_t frames,
  * post_recording_read. */
 int32_t post_recording_play(const uint8_t *bytes, size_t bytes_len, int16_t *output, size_t output_len,
                             int32_t *played, size_t played_len);
+
+/* Number of the one frame that mattered, counted from 1 along the chain: the first received frame of a
+ * recording whose loss alone, all else as recorded, brings a played sample beyond limit in size, or 0 if
+ * no single loss does. Frames are played as by post_recording_play, at most 1,888 of them. number has
+ * POST_VALUE. Refused as post_recording_read, then by 23. */
+int32_t post_single_loss(const uint8_t *bytes, size_t bytes_len, int32_t limit,
+                         int32_t *number, size_t number_len);
 
 #ifdef __cplusplus
 }

@@ -1,16 +1,16 @@
-/* Writes a recording of two frames, plays it, and plays it again with a broken chain:
+/* Writes a recording of two frames, plays it, asks for the frame whose loss would be loud, and plays it again with a broken chain:
  *     recording [OUT.yard]
  * OUT.yard gets the recording, which ./play plays. */
 #include "post.h"
 
 #include <stdio.h>
 
-enum { RECORDS = 3 };
+enum { RECORDS = 3, LIMIT = 32767 };
 
 int main(int count, char **words) {
     static uint8_t bytes[RECORDS * POST_RECORD_BYTES];
     static int16_t output[(RECORDS - 1) * POST_RECORD_PULSES], pulses[POST_RECORD_PULSES] = {1, -1};
-    int32_t head[POST_HEAD], played = 0, frame[POST_FRAME] = {1, 8, 2};
+    int32_t head[POST_HEAD], played = 0, number = 0, frame[POST_FRAME] = {1, 8, 2};
     int16_t coefs[POST_COEFS] = {0};
     frame[POST_FRAME_INTERPOLATION] = 4;
     frame[POST_FRAME_GAINS] = frame[POST_FRAME_GAINS + 1] = 81920000;
@@ -27,11 +27,14 @@ int main(int count, char **words) {
         answer = post_recording_read(bytes, sizeof bytes, head, POST_HEAD);
     if (answer == POST_PLAYED)
         answer = post_recording_play(bytes, sizeof bytes, output, sizeof output / sizeof *output, &played, POST_VALUE);
+    if (answer == POST_PLAYED)
+        answer = post_single_loss(bytes, sizeof bytes, LIMIT, &number, POST_VALUE);
     if (answer != POST_PLAYED) {
         fprintf(stderr, "the recording is refused by %d\n", answer);
         return 1;
     }
     printf("%d frames at %d kHz: %d samples\n", head[POST_HEAD_FRAMES], head[POST_HEAD_RATE], played);
+    printf("the frame whose loss alone brings a sample beyond %d, 0 for none: %d\n", LIMIT, number);
     if (count > 1) {
         FILE *file = fopen(words[1], "wb");
         size_t put = file == NULL ? 0 : fwrite(bytes, 1, sizeof bytes, file);

@@ -18,7 +18,7 @@ const RUNS: usize = 5;
 const PASSES: usize = 31;
 /// A thread's stack in bytes, the words of it that are painted, and what the painting function's own frame may take.
 const STACK: usize = 1 << 20;
-const PAINTED: usize = 1 << 13;
+const PAINTED: usize = 1 << 15;
 const OWN_FRAME: usize = 128;
 
 /// A side's calls in their order: their titles, and the library's functions, whose names end those of the calls.

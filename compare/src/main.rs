@@ -24,6 +24,7 @@ mod reference;
 mod rows;
 mod shrink;
 mod side;
+mod single_loss;
 mod streams;
 mod vectors;
 
@@ -34,7 +35,7 @@ use std::path::{Path, PathBuf};
 use std::process::ExitCode;
 
 const USAGE: &str = "compare/run SOURCES [--seed S] [--from CASE] [--count N] [--streams STREAMS] [--self] [WHAT ...]";
-const OTHERS: [&str; 7] = ["rows", "lists", "recordings", "load", "streams", "firmware", "examples"];
+const OTHERS: [&str; 8] = ["rows", "lists", "recordings", "single_loss", "load", "streams", "firmware", "examples"];
 
 fn main() -> ExitCode {
     let words: Vec<String> = std::env::args().skip(1).collect();
@@ -107,6 +108,10 @@ fn run(words: &[&str]) -> Result<bool, String> {
     if wanted("recordings") {
         let linked = options.own || recordings::LINKED;
         outcomes.push(if linked { options.recordings(files.as_deref().unwrap_or_default()) } else { absent("recordings") });
+    }
+    if wanted("single_loss") {
+        let linked = options.own || single_loss::LINKED;
+        outcomes.push(if linked { options.single_losses(files.as_deref().unwrap_or_default()) } else { absent("single_loss") });
     }
     if wanted("load") {
         let linked = options.own || loads::LINKED;

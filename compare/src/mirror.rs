@@ -1,7 +1,7 @@
 //! The reference in the library's place: each exported function that the library lacks.
 
 use crate::reference::{self, Settings};
-use crate::{loads, recording};
+use crate::{loads, recording, single_loss};
 use std::slice::{from_raw_parts as part, from_raw_parts_mut as part_mut};
 
 type Longs = *mut i32;
@@ -142,4 +142,10 @@ unsafe extern "C" fn post_load_leap(seed: i32, draws: u64) -> i32 {
 #[unsafe(no_mangle)]
 unsafe extern "C" fn post_load_undoing(draws: u64) -> u64 {
     loads::post_load_undoing(draws)
+}
+
+#[cfg(not(has_single_loss))]
+#[unsafe(no_mangle)]
+unsafe extern "C" fn post_single_loss(b: *const u8, bn: usize, limit: i32, n: Longs, nn: usize) -> i32 {
+    unsafe { single_loss::post_single_loss(part(b, bn), limit, part_mut(n, nn)) }
 }

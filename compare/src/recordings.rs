@@ -13,7 +13,7 @@ use std::collections::BTreeMap;
 use std::path::{Path, PathBuf};
 
 /// The repository's own stream.
-const DEMO: &str = concat!(env!("CARGO_MANIFEST_DIR"), "/../crates/play/stdin");
+pub const DEMO: &str = concat!(env!("CARGO_MANIFEST_DIR"), "/../crates/play/stdin");
 /// Whether the library has the functions.
 pub const LINKED: bool = cfg!(all(has_recording_read, has_recording_frame, has_recording_begin, has_recording_append, has_recording_play));
 
@@ -209,7 +209,7 @@ impl Mutated {
 }
 
 /// Frames of a stream from one on; the pulses past a frame's samples are 0.
-fn frames_of(stream: &Stream, from: usize, count: usize) -> Vec<Recorded> {
+pub fn frames_of(stream: &Stream, from: usize, count: usize) -> Vec<Recorded> {
     let recorded = |call: &crate::call::Call| {
         let mut frame = Recorded::lost([stream.rate, stream.subframes]);
         if call.what == Whole::Received {
@@ -223,7 +223,7 @@ fn frames_of(stream: &Stream, from: usize, count: usize) -> Vec<Recorded> {
 }
 
 /// A drawn frame of a shape, received or lost.
-fn drawn(draw: &mut Draw, [rate, subframes]: [i32; 2]) -> Recorded {
+pub fn drawn(draw: &mut Draw, [rate, subframes]: [i32; 2]) -> Recorded {
     let mut frame = Recorded::lost([rate, subframes]);
     if draw.one_in(4) {
         return frame;
@@ -600,7 +600,7 @@ impl Row {
 }
 
 /// A voiced frame at the ends of its ranges.
-fn ends() -> Recorded {
+pub fn ends() -> Recorded {
     let mut frame = Recorded::lost([8, 2]);
     frame.frame = [1, 8, 2, 2, 0, 4, -1, 16, 144, 0, 0, 81_920, 81_920, 0, 0, 16_384];
     (0..16).for_each(|k| frame.coefs[coefs::LINES + k] = 10 * k as i16);

@@ -129,6 +129,7 @@ unsafe extern "C" {
         bytes: *mut u8, bytes_len: usize, frames: u32, frame: *const i32, frame_len: usize, coefs: *const i16, coefs_len: usize,
         pulses: *const i16, pulses_len: usize,
     ) -> i32;
+    fn post_single_loss(bytes: *const u8, bytes_len: usize, limit: i32, number: *mut i32, number_len: usize) -> i32;
     fn post_recording_play(
         bytes: *const u8, bytes_len: usize, output: *mut i16, output_len: usize, played: *mut i32, played_len: usize,
     ) -> i32;
@@ -327,4 +328,11 @@ pub fn load_leap(seed: i32, draws: u64) -> i32 {
 pub fn load_undoing(draws: u64) -> u64 {
     // SAFETY: no pointer is lent.
     unsafe { post_load_undoing(draws) }
+}
+
+/// `post_single_loss`.
+#[cfg(feature = "recording")]
+pub fn single_loss(bytes: &[u8], limit: i32, number: &mut [i32]) -> i32 {
+    // SAFETY: each pointer is lent with its own slice's length, for the call alone.
+    unsafe { post_single_loss(bytes.as_ptr(), bytes.len(), limit, number.as_mut_ptr(), number.len()) }
 }

@@ -2,10 +2,10 @@
 //!
 //! [`Post`] owns a decoder's state. A frame is played by [`Post::received`] or [`Post::lost`]; one that the
 //! back end turns down leaves the state, the description and the output as they were. A call takes up to 24,656
-//! bytes of stack, [`Recording::play`] up to 52,784. The library, which `tools/staticlib post` builds or POST_LIBRARY names, is for x86-64 Linux
-//! alone. Features, which are on unless they are turned off, have archives of their own: `filters`, which `tools/staticlib post_filters` builds,
-//! has [`stability`], [`sentence`], [`filter`], [`cosine`] and [`is_rising`]; `recording`, by `tools/staticlib post_recording`, has [`Recording`]
-//! and [`Writer`]; `load`, by `tools/staticlib post_load`, has [`Load`], [`leap`] and [`undoing`].
+//! bytes of stack, [`Recording::play`] up to 69,192 and [`Recording::single_loss`] up to 85,480. The library, which `tools/staticlib post` builds or
+//! POST_LIBRARY names, is for x86-64 Linux alone. Features, which are on unless they are turned off, have archives of their own: `filters`, which
+//! `tools/staticlib post_filters` builds, has [`stability`], [`sentence`], [`filter`], [`cosine`] and [`is_rising`]; `recording`, by
+//! `tools/staticlib post_recording`, has [`Recording`] and [`Writer`]; `load`, by `tools/staticlib post_load`, has [`Load`], [`leap`] and [`undoing`].
 //!
 //! ```
 //! use post::{Description, Params, Post, Shape};
@@ -85,11 +85,13 @@ pub enum Refusal {
     Record = 21,
     /// Set-up, stability test or filter from lines: the edition is neither 6716 nor 8251. No [`Edition`] gives it.
     Edition = 22,
+    /// A single loss: the limit is not in 1 to 32,767, or the call as recorded already has a sample beyond it.
+    Limit = 23,
 }
 
 impl Refusal {
     /// Every refusal, in the order of their numbers.
-    pub const ALL: [Refusal; 18] = [
+    pub const ALL: [Refusal; 19] = [
         Refusal::Rate,
         Refusal::Size,
         Refusal::History,
@@ -108,6 +110,7 @@ impl Refusal {
         Refusal::Chain,
         Refusal::Record,
         Refusal::Edition,
+        Refusal::Limit,
     ];
 
     /// The refusal that has a number, if one has.
@@ -141,6 +144,7 @@ impl Refusal {
             Refusal::Chain => "chain",
             Refusal::Record => "record",
             Refusal::Edition => "edition",
+            Refusal::Limit => "limit",
         }
     }
 }

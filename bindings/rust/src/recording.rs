@@ -65,6 +65,15 @@ impl<'a> Recording<'a> {
         answered(ffi::recording_play(self.bytes, output, &mut played))?;
         Ok(played[0] as usize)
     }
+
+    /// The first frame, by its number from 1 on, whose loss alone, all else as recorded, brings a played sample beyond the limit in size; none if
+    /// no single loss does. A frame that was lost is not named. Refused by 23 if the limit is not in 1 to 32,767, or if the call as recorded
+    /// already passes it.
+    pub fn single_loss(&self, limit: i32) -> Result<Option<u32>, Refusal> {
+        let mut number = [0; ffi::VALUE];
+        answered(ffi::single_loss(self.bytes, limit, &mut number))?;
+        Ok((number[0] != 0).then_some(number[0] as u32))
+    }
 }
 
 /// Writes a recording into lent bytes, a frame after the other. What is written is a whole recording at any time.

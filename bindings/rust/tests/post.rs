@@ -2,8 +2,8 @@
 
 use post::ffi::words::{EDITION, LOSS_CNT, SQUELCH};
 use post::{
-    Description, Edition, Params, Post, Recording, Refusal, Settings, Shape, Stability, cosine, ffi, filter, is_rising, played, sentence,
-    stability,
+    Description, Edition, Params, Post, Recording, Refusal, Settings, Shape, Stability, Writer, cosine, ffi, filter, is_rising, played,
+    sentence, stability,
 };
 
 const NARROW: Shape = Shape { rate: 8, subframes: 2 };
@@ -38,8 +38,8 @@ fn refused(params: Params, description: Description, pulses: usize, output: usiz
 
 #[test]
 fn numbers_and_words() {
-    let words = "rate, size, history, run full, signal, gain, lag, taps, line, pulses, speaker, length, order, squelch, place, chain, record, edition";
-    let listed: Vec<(i32, &str)> = (1..=14).chain([17, 20, 21, 22]).zip(words.split(", ")).collect();
+    let words = "rate, size, history, run full, signal, gain, lag, taps, line, pulses, speaker, length, order, squelch, place, chain, record, edition, limit";
+    let listed: Vec<(i32, &str)> = (1..=14).chain([17, 20, 21, 22, 23]).zip(words.split(", ")).collect();
     assert_eq!(Refusal::ALL.map(|why| (why.number(), why.word())).to_vec(), listed);
     assert_eq!(Refusal::ALL.map(|why| Refusal::of(why.number())), Refusal::ALL.map(Some));
     assert_eq!([-1, 0, 99].map(Refusal::of), [None; 3]);
@@ -67,6 +67,7 @@ fn each_refusal() {
         Recording::read(&[1; 1_024]).unwrap_err(),
         Recording::read(&[0; 1_024]).unwrap_err(),
         Refusal::of(ffi::set_up_with(16, 4, 0, 8_250, &mut [0; ffi::WORDS], &mut [0; ffi::HALVES])).unwrap(),
+        Recording::read(Writer::begin(&mut [0; 1_024], WIDE).unwrap().written()).unwrap().single_loss(0).unwrap_err(),
     ];
     assert_eq!(found, Refusal::ALL);
 }

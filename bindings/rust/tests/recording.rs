@@ -113,3 +113,20 @@ fn writing_refuses() {
     assert_eq!(writer.lost(), Err(Refusal::Record));
     assert_eq!(writer.written().len(), RECORD * RECORDS);
 }
+
+#[test]
+fn one_frame_that_mattered() {
+    let own = Recording::read(include_bytes!("../../../crates/make_recording/stdout")).unwrap();
+    for (limit, frame) in [(9_642, Some(5)), (10_053, Some(5)), (10_054, Some(6)), (11_193, Some(6)), (11_194, None), (32_767, None)] {
+        assert_eq!(own.single_loss(limit), Ok(frame), "limit {limit}");
+    }
+    for limit in [i32::MIN, -9_642, 0, 1, 9_641, 32_768, i32::MAX] {
+        assert_eq!(own.single_loss(limit), Err(Refusal::Limit), "limit {limit}");
+    }
+    let bytes = two();
+    assert_eq!(Recording::read(&bytes).unwrap().single_loss(1), Ok(None));
+    let mut number = [7, 7];
+    assert_eq!((ffi::single_loss(&bytes, 1, &mut number), number), (0, [0, 7]));
+    assert_eq!(ffi::single_loss(&bytes[1..], 0, &mut number), 21);
+    assert_eq!(ffi::single_loss(&bytes, 0, &mut []), 21);
+}

@@ -1,9 +1,10 @@
-// The functions of recordings that a Rust or C program links. Each is one call of crate `post_recording`, with its contract.
+// The functions of recordings that a Rust or C program links. Each is one call of crate `post_recording` or `post_single_loss`, with its contract.
 #![tactic(auto)]
 
 ghost use Rattle.std.specs.Prelude.{◌≡◌};
 ghost use Rattle.post_recording.specs.Reading.{read_call, frame_call, play_call};
 ghost use Rattle.post_recording.specs.Writing.{begin_call, append_call};
+ghost use Rattle.post_single_loss.specs.Call.{single_loss_call};
 
 // Rate, subframes, count of frames, and the records of the frames.
 #[unsafe(no_mangle)]
@@ -56,4 +57,12 @@ pub extern "C" fn post_recording_play(bytes: &[u8], output: &mut [i16], played: 
     ensures { record { answer = result; output = output.new; played = played.new } ≡ play_call bytes.now output.old played.old }
 {
     post_recording::post_recording_play(bytes, output, played)
+}
+
+// The number of the first frame whose loss alone brings a sample beyond the limit, 0 if there is none.
+#[unsafe(no_mangle)]
+pub extern "C" fn post_single_loss(bytes: &[u8], limit: i32, number: &mut [i32]) -> i32
+    ensures { record { answer = result; number = number.new } ≡ single_loss_call bytes.now limit number.old }
+{
+    post_single_loss::post_single_loss(bytes, limit, number)
 }
