@@ -6,7 +6,7 @@
  * (target/staticlib/libpost_recording.a); any of the archives may be linked, alone or with others. They
  * are for x86-64 Linux alone. They call memcpy, memmove and memset and nothing else, and have no
  * variables of their own: calls on different states may run at the same time. A call takes up to
- * 24,656 bytes of stack (docs/DESIGN-PASS.md), post_recording_play up to 69,192 and
+ * 22,872 bytes of stack (docs/BENCHMARKS.md), post_recording_play up to 69,192 and
  * post_single_loss up to 85,480.
  *
  * A slice is a pointer and the count of its elements. The slices of one call may not overlap, not
@@ -17,9 +17,9 @@
  *    -1           a slice is shorter than its POST_ size below; the functions of recordings answer
  *                 21 in its place
  *     1 to 23     the first refusal that applies (enum post_refusal)
- * of which -1 comes first. Pulses that a frame is played with, output, buffer, coefficients and lines
- * have no such size: 10 to 13, or 17 of post_rising, say that they are too short. A call that does not
- * answer 0 writes nothing. One that does leaves what lies past a slice's size, past a frame's samples,
+ * of which -1 comes first. Pulses that a frame is played with, output, buffer, coefficients, lines and
+ * bytes have no such size: 10 to 13, 17 of post_rising, or 21 of the functions of recordings, say that
+ * they are too short. A call that does not answer 0 writes nothing. One that does leaves what lies past a slice's size, past a frame's samples,
  * past a length or past an order as it was.
  *
  * r is the rate in kHz and n the count of subframes: in post_frame those that the frame brings, in
@@ -242,8 +242,9 @@ uint64_t post_load_undoing(uint64_t draws);
 
 /* The functions of recordings, in libpost_recording.a. docs/RECORDINGS.md has the form of the bytes and
  * what to do about each refusal. They refuse in this order: 21 for a length or a slice that is too
- * short, 20, the rest of 21, 1, 2, then the least of 5 to 9 that any frame of the chain meets. Bytes are
- * lent whole and stay the caller's; nothing is kept between two calls. */
+ * short, 20, the rest of 21, 1, 2, then the least of 5 to 9 that any frame of the chain meets, and last,
+ * of post_single_loss, 23. Bytes are lent whole and stay the caller's; nothing is kept between two
+ * calls. */
 enum {
     POST_RECORD_BYTES = 1024, /* of each record */
     POST_RECORDS = 60,        /* the most of a recording: record 0 and 59 frames */
