@@ -534,7 +534,7 @@ impl Options {
             return false;
         }
         let mut counts = Counts::default();
-        let count = 10 * self.count;
+        let count = (10 * self.count).min(100_000);
         for number in self.from..self.from + count {
             let draw = &mut Draw::new(self.seed, 100, number);
             let (mut mutated, chain) = base(draw, &streams);

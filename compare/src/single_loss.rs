@@ -203,7 +203,7 @@ fn rows(demo: &Stream) -> Vec<(&'static str, Vec<u8>, i32, Result<i32, i32>)> {
 }
 
 impl Options {
-    /// The hand-made cases, then one recording for each fifty calls that are counted for a function.
+    /// The hand-made cases, then one recording for each fifty calls that are counted for a function, and at most 1,000.
     pub fn single_losses(&self, streams: &[PathBuf]) -> bool {
         let fault = self.fault.as_deref() == Some("single_loss");
         let read: Result<Vec<Stream>, String> =
@@ -232,7 +232,7 @@ impl Options {
             return false;
         }
         let mut counts = Counts::default();
-        let count = self.count.div_ceil(50);
+        let count = self.count.div_ceil(50).min(1_000);
         for number in self.from..self.from + count {
             let draw = &mut Draw::new(self.seed, 102, number);
             let (label, mut bytes) = base(draw, &streams);
