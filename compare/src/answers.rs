@@ -97,6 +97,7 @@ pub fn write(streams: &Path, folder: &Path) -> Result<(), String> {
     list.rows()?;
     list.short()?;
     list.filters()?;
+    list.refused_and_short()?;
     writeln!(list.stdout, "{} calls", list.calls).unwrap();
     for (name, text) in [("stdin", &list.stdin), ("stdout", &list.stdout)] {
         fs::write(folder.join(name), text).map_err(|why| format!("{name}: {why}"))?;
@@ -384,6 +385,17 @@ impl List {
             for what in [What::Stability, What::Filter, What::Rising] {
                 self.make(draw::call(&mut Draw::new(SEED, what as u64, case), what))?;
             }
+        }
+        Ok(())
+    }
+
+    /// Calls that would be refused, with no place for an answer, which is told first.
+    fn refused_and_short(&mut self) -> Result<(), String> {
+        self.title("no place for the answer of a call that would be refused");
+        for (what, length) in [(What::Stability, 17), (What::Cosine, 129), (What::Rising, 9), (What::Rising, 10)] {
+            let mut call = Draft { length, lines_lent: 9, ..Draft::plain(what, 8, 2) }.call();
+            call.result.clear();
+            self.make(call)?;
         }
         Ok(())
     }

@@ -771,16 +771,26 @@ fn editions(t: &mut Table) {
         tested(a, OLDER, answer);
     }
     let filters = [
-        (NEWER, [-4455, -5162, -5267, -3607, -2096, -1109, -460, -144, -44, -9]),
-        (OLDER, [-5940, -9177, -12485, -11399, -8833, -6233, -3445, -1436, -590, -164]),
+        (NEWER, APART_10[0], [-4455, -5162, -5267, -3607, -2096, -1109, -460, -144, -44, -9]),
+        (OLDER, APART_10[0], [-5940, -9177, -12485, -11399, -8833, -6233, -3445, -1436, -590, -164]),
+        // Lines at the limit of a step's coefficient, as above; the second ones rise.
+        (OLDER, BETWEEN_10[0], [734, 1107, 1955, 1417, 918, 211, -371, -751, -652, -474]),
+        (OLDER, BETWEEN_10[1], [6573, -2418, 1799, -5138, 5774, -2489, 790, -2713, 2724, -809]),
     ];
-    for (edition, filter) in filters {
+    for (edition, of, filter) in filters {
         let lines = |d: &mut Draft| {
-            lines_10(d, APART_10[0]);
+            lines_10(d, of);
             d.named.edition = edition;
         };
-        t.outcome(Filter, &format!("lines in no order by {edition}"), 0, lines, move |_, c| c.coefficients[..10] == filter);
+        t.outcome(Filter, &format!("{of:?} by {edition}"), 0, lines, move |_, c| c.coefficients[..10] == filter);
     }
+    t.outcome(
+        Filter,
+        "lines at the limit by 6716, order 16",
+        0,
+        |d| (d.lines, d.named.edition) = (BETWEEN_16, OLDER),
+        |_, c| c.coefficients == [-1789, -2296, 296, 1092, -591, -997, -724, -757, 1114, 473, -976, -1259, -1578, -1156, 284, 115],
+    );
 }
 
 // Document 02, Note 6.

@@ -196,8 +196,10 @@ fn rows(demo: &Stream) -> Vec<(&'static str, Vec<u8>, i32, Result<i32, i32>)> {
     rows.push(("losses alone", lost, 1, Ok(0)));
     rows.push(("no frames", written(narrow, &[]), 1, Ok(0)));
     rows.push(("no frames", written(narrow, &[]), 0, Err(23)));
-    for limit in [1, 32_766, 32_767] {
-        rows.push(("a load, whose samples reach -32,768", written([16, 4], &load::recorded(0, [16, 4], 59)), limit, Err(23)));
+    for (shape, count) in [(narrow, 6), ([16, 4], RECORDS - 1)] {
+        for limit in [1, 32_766, 32_767] {
+            rows.push(("a load, whose samples reach -32,768", written(shape, &load::recorded(0, shape, count)), limit, Err(23)));
+        }
     }
     rows
 }

@@ -122,13 +122,46 @@ fn concealment(s: &SilkDecoderState) -> ([i32; 4], i16, i16, i32, i16, i32) {
     (shape, plc.ltp_coef_q14[2], plc.rand_scale_q14, plc.prev_gain_q16[1], plc.prev_lpc_q12[0], plc.conc_energy)
 }
 
+/// The count of losses, the energy for gluing and the description's lags.
+fn moved(s: &SilkDecoderState, c: &Call) -> (i32, i32, [i32; 4]) {
+    (s.loss_cnt, s.s_plc.conc_energy, c.frame[LAGS..GAINS].try_into().unwrap())
+}
+
 /// The held shape: rate, subframes, frame, subframe, history and order.
 fn shape(s: &SilkDecoderState) -> [i32; 6] {
     [s.fs_khz, s.nb_subfr, s.frame_length, s.subfr_length, s.ltp_mem_length, s.lpc_order]
 }
 
+/// After 12, 4: what a loss at 16, 2 leaves.
+fn lost_at_16(s: &SilkDecoderState, c: &Call) -> bool {
+    shape(s) == [16, 2, 160, 80, 320, 16]
+        && kept(s) == (82, 0, 1, 1)
+        && concealment(s) == ([16, 2, 20, 20_890], 11_235, 16_057, 65_536, 0, 65)
+        && s.s_plc.prev_lpc_q12 == [0; 16]
+        && (s.s_cng.fs_khz, s.s_cng.cng_smth_nlsf_q15[0], s.s_cng.cng_smth_nlsf_q15[15]) == (16, 1_927, 30_832)
+        && s.prev_gain_q16 == 1 << 24
+        && c.frame[LAGS..GAINS] == [82; 4]
+}
+
+/// And then a frame received there.
+fn resumed_at_16(s: &SilkDecoderState, c: &Call) -> bool {
+    heard(c) == ([2, 10, 10, 7, 4, 3, 3, 1], 9, 764, 637)
+        && kept(s) == (160, 2, 0, 0)
+        && concealment(s) == ([16, 2, 80, 40_960], 11_464, 16_057, 1 << 24, 2_048, 65)
+        && s.prev_nlsf_q15[15] == 30_400
+}
+
+/// Or another loss, back at 12, 4.
+fn lost_at_12(s: &SilkDecoderState, c: &Call) -> bool {
+    shape(s) == [12, 4, 240, 60, 240, 10]
+        && kept(s) == (125, 0, 1, 2)
+        && concealment(s) == ([12, 2, 20, 31_966], 9_150, 10_533, 65_536, 0, 154)
+        && s.s_cng.cng_smth_nlsf_q15[9..11] == [29_780, 21_197]
+        && c.frame[LAGS..GAINS] == [125; 4]
+}
+
 pub fn all() -> Vec<Vector> {
-    changes().into_iter().chain([squelch()]).chain(editions()).collect()
+    changes().into_iter().chain(squelches()).chain(editions()).collect()
 }
 
 fn changes() -> [Vector; 7] {
@@ -156,29 +189,12 @@ fn changes() -> [Vector; 7] {
         }),
         from("12, 4; lost at 16, 2; 16, 2", 12)
             .plays(voiced(12, 4))
-            .gives(lost(16, 2), |s, c| {
-                heard(c) == ([0; 8], 0, 5, 19)
-                    && shape(s) == [16, 2, 160, 80, 320, 16]
-                    && kept(s) == (82, 0, 1, 1)
-                    && concealment(s) == ([16, 2, 20, 20_890], 11_235, 16_057, 65_536, 0, 65)
-                    && s.s_plc.prev_lpc_q12 == [0; 16]
-                    && (s.s_cng.fs_khz, s.s_cng.cng_smth_nlsf_q15[0], s.s_cng.cng_smth_nlsf_q15[15]) == (16, 1_927, 30_832)
-                    && s.prev_gain_q16 == 1 << 24
-                    && c.frame[LAGS..GAINS] == [82; 4]
-            })
-            .gives(voiced(16, 2), |s, c| {
-                heard(c) == ([2, 10, 10, 7, 4, 3, 3, 1], 9, 764, 637)
-                    && kept(s) == (160, 2, 0, 0)
-                    && concealment(s) == ([16, 2, 80, 40_960], 11_464, 16_057, 1 << 24, 2_048, 65)
-                    && s.prev_nlsf_q15[15] == 30_400
-            }),
-        from("12, 4; lost at 16, 2; lost at 12, 4", 12).plays(voiced(12, 4)).plays(lost(16, 2)).gives(lost(12, 4), |s, c| {
-            heard(c) == ([0, 3, 0, 0, 0, 0, 0, 0], 0, 3, 10)
-                && shape(s) == [12, 4, 240, 60, 240, 10]
-                && kept(s) == (125, 0, 1, 2)
-                && concealment(s) == ([12, 2, 20, 31_966], 9_150, 10_533, 65_536, 0, 154)
-                && s.s_cng.cng_smth_nlsf_q15[9..11] == [29_780, 21_197]
-        }),
+            .gives(lost(16, 2), |s, c| heard(c) == ([0; 8], 0, 5, 19) && lost_at_16(s, c))
+            .gives(voiced(16, 2), resumed_at_16),
+        from("12, 4; lost at 16, 2; lost at 12, 4", 12)
+            .plays(voiced(12, 4))
+            .plays(lost(16, 2))
+            .gives(lost(12, 4), |s, c| heard(c) == ([0, 3, 0, 0, 0, 0, 0, 0], 0, 3, 10) && lost_at_12(s, c)),
         from("12, 4; 8, 4", 12).plays(voiced(12, 4)).gives(voiced(8, 4), |s, c| {
             heard(c) == ([757, 388, 203, 95, 41, 30, 24, 5], 4, 1_138, 5_402)
                 && shape(s) == [8, 4, 160, 40, 160, 10]
@@ -199,14 +215,35 @@ fn changes() -> [Vector; 7] {
     ]
 }
 
-fn squelch() -> Vector {
-    Vector::new("squelch 3; four losses between two frames", (8, 2), Settings { squelch: 3, ..Settings::default() })
-        .plays(voiced(8, 2))
-        .gives(lost(8, 2), |s, c| c.output[..6] == [531, 275, 145, 69, 29, 20] && largest(c) == 640 && s.s_plc.conc_energy == 2_170_806)
-        .gives(lost(8, 2), |s, c| c.output[..6] == [12, 3, 370, 193, 103, 50] && largest(c) == 442 && s.s_plc.conc_energy == 1_037_875)
-        .gives(lost(8, 2), |s, c| c.output == [0; 80] && (s.loss_cnt, s.s_plc.conc_energy) == (3, 478_733))
-        .gives(lost(8, 2), |s, c| c.output == [0; 80] && (s.loss_cnt, s.s_plc.conc_energy) == (4, 208_441))
-        .gives(voiced(8, 2), |_, c| c.output[..8] == [173, 104, 63, 20, 9, 9, 25, 11])
+fn squelches() -> [Vector; 3] {
+    let from =
+        |label: &'static str, shape: (i32, i32), squelch: i32| Vector::new(label, shape, Settings { squelch, ..Settings::default() });
+    [
+        from("squelch 3; four losses between two frames, and one more", (8, 2), 3)
+            .plays(voiced(8, 2))
+            .gives(lost(8, 2), |s, c| {
+                c.output[..6] == [531, 275, 145, 69, 29, 20] && largest(c) == 640 && moved(s, c) == (1, 2_170_806, [82; 4])
+            })
+            .gives(lost(8, 2), |s, c| {
+                c.output[..6] == [12, 3, 370, 193, 103, 50] && largest(c) == 442 && moved(s, c) == (2, 1_037_875, [83; 4])
+            })
+            .gives(lost(8, 2), |s, c| c.output == [0; 80] && moved(s, c) == (3, 478_733, [85; 4]))
+            .gives(lost(8, 2), |s, c| c.output == [0; 80] && moved(s, c) == (4, 208_441, [87; 4]))
+            .gives(voiced(8, 2), |s, c| {
+                c.output[..8] == [173, 104, 63, 20, 9, 9, 25, 11] && largest(c) == 768 && (s.loss_cnt, s.s_plc.conc_energy) == (0, 208_441)
+            })
+            .gives(lost(8, 2), |s, c| {
+                c.output[..6] == [541, 280, 148, 47, 20, 20] && largest(c) == 564 && moved(s, c) == (1, 2_259_583, [82; 4])
+            }),
+        from("squelch 1; 12, 4; lost at 16, 2; 16, 2", (12, 4), 1)
+            .plays(voiced(12, 4))
+            .gives(lost(16, 2), |s, c| c.output == [0; 160] && lost_at_16(s, c))
+            .gives(voiced(16, 2), resumed_at_16),
+        from("squelch 2; 12, 4; lost at 16, 2; lost at 12, 4", (12, 4), 2)
+            .plays(voiced(12, 4))
+            .gives(lost(16, 2), |s, c| heard(c) == ([0; 8], 0, 5, 19) && lost_at_16(s, c))
+            .gives(lost(12, 4), |s, c| c.output == [0; 240] && lost_at_12(s, c)),
+    ]
 }
 
 fn editions() -> [Vector; 8] {

@@ -41,6 +41,7 @@ pub fn blank() -> Entry
     between([0; 17], 0)
 }
 
+// The signed number. By `as`, since the clause bounds the size: `i16::try_from` would bring an error that never comes.
 #[tactic(auto, unfolding(crate::specs::Line::number))]
 fn number(size: usize, negative: bool) -> i16
     requires { size < cond negative 32769 32768 }

@@ -1,17 +1,13 @@
 -- Bounds of a subframe's places.
-use Prim.Native.Nat.{ℕ, ◌+◌, ◌*◌, ◌<◌, ◌≤◌}
+use Prim.Native.Nat.{ℕ, ◌*◌, ◌<◌, ◌≤◌}
 use mathlib.Core.Path.{◌≡◌, refl}
 use mathlib.Core.Bool.{Bool, true, false, ◌&&◌, ◌||◌}
-use mathlib.Core.List.{List}
 use native.Mathlib.Omega.{arith}
 use native.Mathlib.Nat.{mul-le-mul}
 use borrow.Author.Tests.{eqb-true}
 use lib.Dec.{eqb}
-use lib.IntN.{ℤ}
-use lib.ListN.{length}
-use Rattle.sigproc.proofs.Places.{length-put_at}
 use Rattle.decoder.specs.declared.SilkDecoderControl.{SilkDecoderControl}
-use Rattle.decode_core.specs.Core.{rewhitens, buffer_at}
+use Rattle.decode_core.specs.Core.{rewhitens}
 use Rattle.decode_core.specs.Ready.{Ready}
 use Rattle.decode_core.specs.declared.Setting.{Setting}
 

@@ -1,23 +1,21 @@
 -- The end of the long-term state filled anew: rewhitened, or adjusted to a gain.
 use Prim.Native.Nat.{ℕ, zero, suc, ◌+◌, ◌-◌, ◌<◌, ◌≤◌}
 use mathlib.Core.Bool.{Bool, true, false, cond}
-use mathlib.Core.Path.{◌≡◌, refl, sym, ap, ◌∙◌}
+use mathlib.Core.Path.{◌≡◌, sym, ap, ◌∙◌}
 use mathlib.Core.List.{List, ◌++◌, map, append_assoc, append-nil}
 use native.Mathlib.Omega.{arith}
-use borrow.Author.Tests.{le-ltb}
 use borrow.Rule.Slice.PartMut.{put_mid}
 use lib.IntN.{ℤ, pos, nat_abs}
-use lib.ListN.{length, get_or, take, drop, length-append, length-take, length-drop, take-append-drop, drop_of_length-le, get_or-append}
-use lib.Seq.{get_or-take, get_or-drop, get_or-append-add, drop-drop, take_at, drop_at, take-take, length-take-le, ext_get_or}
+use lib.ListN.{length, get_or, take, drop, length-append, length-take, length-drop, take-append-drop, drop_of_length-le}
+use lib.Seq.{get_or-take, get_or-drop, drop-drop, take_at, drop_at, take-take, length-take-le, ext_get_or}
 use mir.Syntax.{w32}
 use mir.Val.{SFits}
 use Rattle.word.specs.Tabulate.{tabulate}
-use Rattle.word.proofs.Lists.{length-tabulate, get_or-tabulate, map-tabulate}
+use Rattle.word.proofs.Lists.{length-tabulate, get_or-tabulate}
 use Rattle.word.proofs.Fits.{AllFit, append-fits, one-fits, take-fits, drop-fits, tabulate-fits}
 use Rattle.macros.specs.Fixed.{smulww, smulwb}
-use Rattle.sigproc.specs.Analysis.{products, residual, analysis}
+use Rattle.sigproc.specs.Analysis.{residual}
 use Rattle.std.proofs.lemmas.List.{length-map, get_or-map}
-use Rattle.sigproc.proofs.Ranges.{length-analysis}
 use Rattle.word.proofs.Words.{wrap-fits}
 use Rattle.decoder.specs.declared.SilkDecoderControl.{SilkDecoderControl}
 use Rattle.decode_core.specs.declared.Setting.{Setting}
@@ -47,11 +45,6 @@ pub part_end : (a : ℕ) (xs ys : List ℤ) → a ≤ length xs → put_mid a (l
 part_end a xs ys h =
     mid_is a (length xs - a) xs ys ∙ (rw (drop_of_length-le xs {i = a + (length xs - a)} (omega arith)) (append-nil (take a xs ++ ys)))
 
--- the stretch of a history that the filter reads
-pub length_stretch : (x a : List ℤ) (d start idx : ℕ) → start ≤ idx → idx ≤ length x → length (analysis (take (idx - start) (drop start x)) a d) ≡ idx - start
-length_stretch x a d start idx h k =
-    length-analysis (take (idx - start) (drop start x)) a d ∙ length-take-le (idx - start) (drop start x) (simp length-drop (omega arith))
-
 -- a part of a list replaced by a table of its places
 pub refill-part : (past : List ℤ) (m from idx : ℕ) (f : ℕ → ℤ) (ys : List ℤ) → from + m ≡ idx → idx ≤ length past → ys ≡ tabulate m (λ t. f (from + t))
     → put_mid from (idx - from) past ys ≡ refilled (take idx past) m f ++ drop idx past
@@ -65,55 +58,6 @@ refill-part past m from idx f ys e h y =
 -- a part's elements in the whole
 part_at : (x : List ℤ) (s n i : ℕ) → i < n → get_or (take n (drop s x)) i (pos 0) ≡ get_or x (s + i) (pos 0)
 part_at x s n i h = get_or-take n (drop s x) i (pos 0) h ∙ get_or-drop s x i (pos 0)
-
--- the residual of a part is that of the whole, from the order on
-products-part : (x a : List ℤ) (s n i j : ℕ) → j ≤ i → i ≤ n → products (take n (drop s x)) a i j ≡ products x a (s + i) j
-unfolding products
-products-part x a s n i zero h k = refl
-products-part x a s n i (suc j) h k =
-    let e : s + (i - 1 - j) ≡ s + i - 1 - j = omega arith in
-    rw (products-part x a s n i j (omega arith) k, part_at x s n (i - 1 - j) (omega arith), e) refl
-
-residual-part : (x a : List ℤ) (d s n i : ℕ) → d ≤ i → i < n → residual (take n (drop s x)) a d i ≡ residual x a d (s + i)
-unfolding residual
-residual-part x a d s n i h k = rw (part_at x s n i k, products-part x a s n i d h (omega arith))
-
--- what the analysis filter leaves behind its first d places
-whitened : (z x a : List ℤ) (d m start from idx : ℕ) → start + d ≡ from → from + m ≡ idx → idx ≤ length z → idx ≤ length x
-    → take (idx - from) (drop from (put_mid start (idx - start) z (analysis (take (idx - start) (drop start x)) a d))) ≡ tabulate m (λ t. residual x a d (from + t))
-unfolding analysis
-whitened z x a d m start from idx e f hz hx =
-    let X = take (idx - start) (drop start x) in
-    let A = analysis X a d in
-    let R = drop (start + (idx - start)) z in
-    let lX : length X ≡ idx - start = length-take-le (idx - start) (drop start x) (simp length-drop (omega arith)) in
-    let lA : length A ≡ idx - start = length_stretch x a d start idx (omega arith) hx in
-    let lz : length (take start z) ≡ start = length-take-le start z (omega arith) in
-    let lW : length (take start z ++ A) ≡ idx = length-append (take start z) A ∙ omega arith in
-    let lL : length (take (idx - from) (drop from (take start z ++ A ++ R))) ≡ m =
-    length-take-le (idx - from) (drop from (take start z ++ A ++ R)) (simp (length-drop, length-append) (omega arith)) ∙ omega arith in
-    let g : ℕ → ℤ = λ t. residual x a d (from + t) in
-    ap (λ (r : List ℤ). take (idx - from) (drop from r)) (mid_is start (idx - start) z A)
-    ∙ ext_get_or (pos 0) (take (idx - from) (drop from (take start z ++ A ++ R))) (tabulate m g) (lL ∙ sym (length-tabulate m g))
-    (λ t ht.
-    let k : t < m = rw lL at ht in
-    let i : from + t ≡ start + (d + t) = omega arith in
-    let j : start + (d + t) ≡ length (take start z) + (d + t) = omega arith in
-    part_at (take start z ++ A ++ R) from (idx - from) t (omega arith)
-    ∙ get_or-append (take start z ++ A) R (pos 0) (from + t) (omega arith)
-    ∙ ap (λ (n : ℕ). get_or (take start z ++ A) n (pos 0)) (i ∙ j)
-    ∙ get_or-append-add (take start z) A (d + t) (pos 0)
-    ∙ get_or-tabulate (length X) _ (d + t) (omega arith)
-    ∙ (rw (le-ltb (d + t) d (omega arith)) (residual-part x a d start (idx - start) (d + t) (omega arith) (omega arith)))
-    ∙ ap (residual x a d) (sym i)
-    ∙ sym (get_or-tabulate m g t k))
-
-pub rewhitened : (past z x a : List ℤ) (d m start from idx : ℕ) (inverse : ℤ) → start + d ≡ from → from + m ≡ idx → idx ≤ length z → idx ≤ length x → idx ≤ length past
-    → put_mid from (idx - from) past (map (smulwb inverse) (take (idx - from) (drop from (put_mid start (idx - start) z (analysis (take (idx - start) (drop start x)) a d)))))
-    ≡ refilled (take idx past) m (λ i. smulwb inverse (residual x a d i)) ++ drop idx past
-rewhitened past z x a d m start from idx inverse e f hz hx hp =
-    refill-part past m from idx (λ i. smulwb inverse (residual x a d i)) _ f hp
-    (ap (map (smulwb inverse)) (whitened z x a d m start from idx e f hz hx) ∙ map-tabulate (smulwb inverse) (λ t. residual x a d (from + t)) m)
 
 pub adjusted : (past : List ℤ) (m from idx : ℕ) (adj : ℤ) → from + m ≡ idx → idx ≤ length past
     → put_mid from (idx - from) past (map (smulww adj) (take (idx - from) (drop from past)))

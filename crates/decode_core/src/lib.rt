@@ -25,7 +25,7 @@ use excitation::{excite, offset_q14};
 use macros::{silk_add_lshift32, silk_div32_varq, silk_inverse32_varq, silk_smulwb, silk_smulww};
 use refusal::Refusal;
 use shape::{Order, Rate, count_of};
-use sigproc::{copy_at, ltp_prediction, scale_out, silk_lpc_analysis_filter, synthesis, weigh};
+use sigproc::{copy_at, ltp_prediction, rewhiten, scale_out, synthesis};
 use std::marker::Model;
 use word::shl32;
 
@@ -121,8 +121,7 @@ fn ltp_synthesis(past: &mut [i32], idx: usize, taps: [i16; 5], lag: usize, res: 
 }
 
 impl Past {
-    // The last lag + 2 places anew: the filter reads the history from its start place on and fills the same stretch.
-    // plc's `rewhiten` has these steps too: it needs a room of 320 places, and one for both would clear 480.
+    // The last lag + 2 places anew, from the history's residual.
     fn rewhiten(
         &mut self,
         lag: usize,
@@ -131,15 +130,12 @@ impl Past {
         order: Order,
         inverse: i32,
     )
-        requires { (size order + lag + 2 ≤ length self.old) × (length self.old ≤ 480) }
+        requires { (size order + lag + 2 ≤ 320) × (size order + lag + 2 ≤ length self.old) × (length self.old ≤ 480) }
         ensures { self.new ≡ refilled self.old (lag + 2) (λ i. smulwb inverse (residual out_buf.now row.now (size order) i)) }
     {
         let idx = self.idx;
         let from = idx - lag - 2;
-        let start = from - order.size();
-        let mut residual = [0; 480];
-        silk_lpc_analysis_filter(&mut residual[start..idx], &out_buf[start..idx], row, order);
-        weigh(&mut self.q15[from..idx], &residual[from..idx], inverse);
+        rewhiten(&mut self.q15[from..idx], from, out_buf, row, order, inverse);
     }
 
     // The last lag + 2 places by an adjustment of the gain; one by 65,536 leaves them as they are.

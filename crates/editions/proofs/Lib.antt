@@ -1,4 +1,4 @@
 -- The laws that the claims' proofs share.
-mod Tests
-mod Filters
+pub mod Tests
+pub mod Filters
 mod Stable

@@ -2,3 +2,4 @@
 mod With
 mod Squelch
 mod Editions
+mod Losses

@@ -18,7 +18,7 @@ use Rattle.decode_frame.specs.Call.{Call, shape_at, state_at}
 use Rattle.decode_frame.specs.Answer.{frame_refusal, frame_outcome, frame_output}
 use Rattle.frame_settings.specs.Changed.{answer_by}
 use Rattle.frame_settings.specs.Squelch.{with_squelch, StateAsBefore, SamplesAsBefore, LostAsBefore, PlaysZeros}
-use Rattle.frame_settings.proofs.With.{by, refusal_with, answer_left, output-left, changed}
+use Rattle.frame_settings.proofs.With.{by, same_edition, refusal_with, answer_left, output-left, changed}
 
 module _ (q : ℤ) (s : SilkDecoderState) (x : Call) (e : is_squelch q ≡ true) where
   refused : frame_refusal (with_squelch q s) x ≡ frame_refusal (with_squelch (pos 0) s) x
@@ -28,17 +28,17 @@ module _ (q : ℤ) (s : SilkDecoderState) (x : Call) (e : is_squelch q ≡ true)
 pub state_as_before : StateAsBefore
 state_as_before q s x e =
     let j = frame_refusal (with_squelch (pos 0) s) x in
-    answer_left s x j (by q s.settings.edition) (refused q s x e) (λ z. refl) ∙ changed (answer_by (with_squelch q)) j _ _ refl (λ r. refl)
-    ∙ sym (ap (answer_by (with_squelch q)) (answer_left s x j (by (pos 0) s.settings.edition) refl (λ z. refl)))
+    answer_left s x j (by q s.settings.edition) (refused q s x e) (same_edition s x (by q s.settings.edition) refl) ∙ changed (answer_by (with_squelch q)) j _ _ refl (λ r. refl)
+    ∙ sym (ap (answer_by (with_squelch q)) (answer_left s x j (by (pos 0) s.settings.edition) refl (same_edition s x (by (pos 0) s.settings.edition) refl)))
 
 pub samples_as_before : SamplesAsBefore
 unfolding squelched
 samples_as_before q s x e k =
     let r = frame_refusal (with_squelch (pos 0) s) x in
-    output-left s x r (by q s.settings.edition) (refused q s x e) (λ z. refl) k ∙ sym (output-left s x r (by (pos 0) s.settings.edition) refl (λ z. refl) (λ z. refl))
+    output-left s x r (by q s.settings.edition) (refused q s x e) (same_edition s x (by q s.settings.edition) refl) k ∙ sym (output-left s x r (by (pos 0) s.settings.edition) refl (same_edition s x (by (pos 0) s.settings.edition) refl) (λ z. refl))
 
 -- a lost frame as it is squelched or not
-lost-by : (s : SilkDecoderState) (x : Call) (b : Bool) → x.frame ≡ Lost → squelched s ≡ b → frame_outcome s x ≡ muted (shape_at x) b (lost (shape_at x) (state_at s x) x.control)
+pub lost-by : (s : SilkDecoderState) (x : Call) (b : Bool) → x.frame ≡ Lost → squelched s ≡ b → frame_outcome s x ≡ muted (shape_at x) b (lost (shape_at x) (state_at s x) x.control)
 unfolding whole_frame squelched reshaped reshaped_by
 lost-by s x b f e =
     ap (λ (z : Frame). whole_frame (shape_at x) (state_at s x) z x.control x.rows x.lines x.pulses) f

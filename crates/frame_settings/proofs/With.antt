@@ -2,9 +2,9 @@
 use Prim.Native.Nat.{ℕ}
 use mathlib.Core.Path.{◌≡◌, refl, sym, ap, ◌∙◌}
 use mathlib.Core.Bool.{Bool, true, false, not, cond, ◌&&◌}
-use mathlib.Core.List.{List, [], ◌∷◌, ◌++◌}
-use lib.IntN.{ℤ, pos}
-use lib.ListN.{length, get_or, drop}
+use mathlib.Core.List.{List, [], ◌∷◌, ◌++◌, map}
+use lib.IntN.{ℤ, pos, ◌+ℤ◌}
+use lib.ListN.{length, get_or, take, drop}
 use Rattle.word.specs.Int.{eq_ℤ}
 use Rattle.std.specs.Prelude.{Result, Ok, Err}
 use Rattle.refusal.specs.Refusals.{Judged, if_accepted, answered}
@@ -28,9 +28,12 @@ use Rattle.decoder.specs.declared.Frame.TheVariants.{Received, Lost}
 use Rattle.judge.specs.Rows.{line_row, param_rows, room_rows, loss_rows, frame_rows}
 use Rattle.decode_core.specs.Core.{transition, setting_of, start, decode_core}
 use Rattle.plc.specs.Update.{plc_update}
-use Rattle.plc.specs.Conceal.{heard, noise_place, coefficients, voice, signal, concealed, held_after, plc_conceal}
-use Rattle.decoder.specs.With.{with_noise}
-use Rattle.cng.specs.Noise.{cng_ready, heard_noise, sounded, sounding, comfort_noise}
+use Rattle.plc.specs.Hold.{plc_ready}
+use Rattle.plc.specs.Conceal.{heard, noise_place, coefficients, harm_gain, noise_gain, noise_scale, later_gain, lag_of, rewhitened, voices, voice_by, voice, signal_by, signal, concealed, held_by, held_after, lagged, plc_conceal}
+use Rattle.decoder.specs.With.{with_memory, with_losses, with_plc, with_noise}
+use Rattle.cng.specs.Noise.{cng_ready, hold_noise, heard_noise, exc_mask, seed_at, drawn, noise_filter, noise_signal, sounded, added_to, comfort_noise}
+use Rattle.cng.specs.Noise as noise
+use Rattle.sigproc.specs.Synthesis.{synthesis, played}
 use Rattle.glue.specs.Glue.{glue_frames}
 use Rattle.decode_frame.specs.WholeFrame.{lined, remembered, resumed, lag_kept, finished, received, lost, muted, whole_frame}
 use Rattle.decode_frame.specs.Call.{Call, shape_at, state_at}
@@ -51,31 +54,47 @@ either-with : (v : Settings) (b : Bool) (f g : Framed) → cond b (framed_with v
 either-with v true f g = refl
 either-with v false f g = refl
 
--- noise reads the edition
-noised-with : (v : Settings) (p : Shape) (s : SilkDecoderState) (gains : List ℤ) (n : ℕ) (frame : List ℤ) → v.edition ≡ s.settings.edition → comfort_noise p (with_settings s v) gains n frame ≡ framed_with v (comfort_noise p s gains n frame)
-unfolding comfort_noise
+-- the noise's gain of a lost frame, and the filter of its noise, under an edition: a lost frame reads no other of its settings
+abbrev pub gain_at : ℤ → Shape → SilkDecoderState → ℤ
+gain_at e p s = noise_gain s.loss_cnt s.prev_signal_type e (take (lpc_order p) (coefficients p s (plc_ready p s.s_plc)))
+
+abbrev pub filter_at : ℤ → Shape → SilkDecoderState → List ℤ
+filter_at e p s = noise_filter e (lpc_order p) (cng_ready p.rate s.s_cng)
+
+noised-with : (v : Settings) (p : Shape) (s : SilkDecoderState) (gains : List ℤ) (n : ℕ) (frame : List ℤ) → filter_at v.edition p s ≡ filter_at s.settings.edition p s → comfort_noise p (with_settings s v) gains n frame ≡ framed_with v (comfort_noise p s gains n frame)
+unfolding comfort_noise sounded noise_signal
 noised-with v p s gains n frame k =
     let h = cng_ready p.rate s.s_cng in
     let d = lpc_order p in
-    ap (λ (e : ℤ). cond (eq_ℤ s.loss_cnt (pos 0)) (framed_with v (record { state = with_noise s (heard_noise p s.exc_q14 s.prev_nlsf_q15 gains s.prev_signal_type s.s_cng); frame = frame }))
-    (framed_with v (record { state = with_noise s (sounded e d h n); frame = sounding e d s.s_plc.rand_scale_q14 (get_or s.s_plc.prev_gain_q16 1 (pos 0)) h n frame }))) k
+    let drew = drawn h.cng_exc_buf_q14 (exc_mask n) h.rand_seed n in
+    ap (λ (a : List ℤ). cond (eq_ℤ s.loss_cnt (pos 0)) (framed_with v (record { state = with_noise s (heard_noise p s.exc_q14 s.prev_nlsf_q15 gains s.prev_signal_type s.s_cng); frame = frame }))
+    (framed_with v (record {
+      state = with_noise s (hold_noise h.cng_exc_buf_q14 h.cng_smth_nlsf_q15 (drop n (synthesis h.cng_synth_state drew a d n)) h.cng_smth_gain_q16 (seed_at h.rand_seed n) h.fs_khz);
+      frame = added_to frame (synthesis h.cng_synth_state drew a d n) (noise.noise_gain s.s_plc.rand_scale_q14 (get_or s.s_plc.prev_gain_q16 1 (pos 0)) h.cng_smth_gain_q16) n;
+    }))) k
     ∙ either-with v (eq_ℤ s.loss_cnt (pos 0)) _ _
 
-finished-with : (v : Settings) (p : Shape) (o : Outcome) → v.edition ≡ o.state.settings.edition → finished p (outcome_with v o) ≡ outcome_with v (finished p o)
+finished-with : (v : Settings) (p : Shape) (o : Outcome) → filter_at v.edition p o.state ≡ filter_at o.state.settings.edition p o.state → finished p (outcome_with v o) ≡ outcome_with v (finished p o)
 unfolding finished glue_frames lag_kept
 finished-with v p o k =
     ap (glued p o.control) (noised-with v p o.state o.control.gains_q16 (frame_length p) o.samples k)
 
--- and so does concealment: a lost frame is the same with another squelch
-lost-with : (v : Settings) (p : Shape) (s : SilkDecoderState) (c : SilkDecoderControl) → v.edition ≡ s.settings.edition → lost p (with_settings s v) c ≡ outcome_with v (lost p s c)
-unfolding lost remembered plc_conceal signal voice coefficients noise_place heard concealed held_after
-lost-with v p s c k =
-    let w = by v.squelch s.settings.edition in
-    let e : v ≡ w = λ i. by v.squelch (k i) in
+-- a lost frame on a state with settings v leaves what it leaves on the state as it is
+abbrev pub LostWith : Settings → Shape → SilkDecoderState → SilkDecoderControl → Type 0
+LostWith v p s c = lost p (with_settings s v) c ≡ outcome_with v (lost p s c)
+
+pub lost-with : (v : Settings) (p : Shape) (s : SilkDecoderState) (c : SilkDecoderControl) → gain_at v.edition p s ≡ gain_at s.settings.edition p s → filter_at v.edition p s ≡ filter_at s.settings.edition p s → LostWith v p s c
+unfolding lost remembered plc_conceal signal voice voice_by coefficients noise_place heard concealed held_after
+lost-with v p s c g k =
+    let h = plc_ready p s.s_plc in
+    let a = coefficients p s h in
     let o = plc_conceal p s c in
-    ap (λ (u : Settings). lost p (with_settings s u) c) e
-    ∙ finished-with w p (record { state = remembered p o.state o.samples; control = o.control; samples = o.samples }) refl
-    ∙ ap (λ (u : Settings). outcome_with u (lost p s c)) (sym e)
+    ap (λ (gain : ℤ).
+    let w = voices p s.exc_q14 (noise_place p s h) (harm_gain s.loss_cnt) gain p.subframes (record { past = rewhitened p s.out_buf a h; taps = h.ltp_coef_q14; scale = noise_scale s.loss_cnt s.prev_signal_type h; pitch = h.pitch_l_q8; seed = h.rand_seed }) in
+    let t = with_plc (with_losses (with_memory s (drop (frame_length p) (signal_by p w s.s_lpc_q14_buf a))) (s.loss_cnt +ℤ pos 1)) (held_by w a h) in
+    let heard = map (played (later_gain h)) (drop 16 (signal_by p w s.s_lpc_q14_buf a)) in
+    finished p (outcome_with v (record { state = remembered p t heard; control = lagged c (lag_of w.pitch); samples = heard }))) g
+    ∙ finished-with v p (record { state = remembered p o.state o.samples; control = o.control; samples = o.samples }) k
 
 -- a received one with any settings
 received-with : (v : Settings) (p : Shape) (s : SilkDecoderState) (q : Params) (c : SilkDecoderControl) (rows : List (List ℤ)) (lines pulses : List ℤ)
@@ -113,23 +132,23 @@ module _ (p : Shape) (s : SilkDecoderState) (c : SilkDecoderControl) (rows : Lis
   plain Lost = (lost p s c).samples
 
   module _ (v : Settings) where
-    state-with : (f : Frame) → (f ≡ Lost → v.edition ≡ s.settings.edition) → (whole_frame p (with_settings s v) f c rows lines pulses).state ≡ with_settings (whole_frame p s f c rows lines pulses).state v
+    state-with : (f : Frame) → (f ≡ Lost → LostWith v p s c) → (whole_frame p (with_settings s v) f c rows lines pulses).state ≡ with_settings (whole_frame p s f c rows lines pulses).state v
     unfolding whole_frame muted
     state-with (Received q) k = ap (λ (o : Outcome). o.state) (received-with v p s q c rows lines pulses)
-    state-with Lost k = ap (λ (o : Outcome). o.state) (lost-with v p s c (k refl))
+    state-with Lost k = ap (λ (o : Outcome). o.state) (k refl)
 
-    control-with : (f : Frame) → (f ≡ Lost → v.edition ≡ s.settings.edition) → (whole_frame p (with_settings s v) f c rows lines pulses).control ≡ (whole_frame p s f c rows lines pulses).control
+    control-with : (f : Frame) → (f ≡ Lost → LostWith v p s c) → (whole_frame p (with_settings s v) f c rows lines pulses).control ≡ (whole_frame p s f c rows lines pulses).control
     unfolding whole_frame muted
     control-with (Received q) k = ap (λ (o : Outcome). o.control) (received-with v p s q c rows lines pulses)
-    control-with Lost k = ap (λ (o : Outcome). o.control) (lost-with v p s c (k refl))
+    control-with Lost k = ap (λ (o : Outcome). o.control) (k refl)
 
-    samples-with : (f : Frame) → (f ≡ Lost → v.edition ≡ s.settings.edition) → (f ≡ Lost → squelched (with_settings s v) ≡ false) → (whole_frame p (with_settings s v) f c rows lines pulses).samples ≡ plain f
+    samples-with : (f : Frame) → (f ≡ Lost → LostWith v p s c) → (f ≡ Lost → squelched (with_settings s v) ≡ false) → (whole_frame p (with_settings s v) f c rows lines pulses).samples ≡ plain f
     unfolding whole_frame muted
     samples-with (Received q) k e = ap (λ (o : Outcome). o.samples) (received-with v p s q c rows lines pulses)
-    samples-with Lost k e = rw (e refl) (ap (λ (o : Outcome). o.samples) (lost-with v p s c (k refl)))
+    samples-with Lost k e = rw (e refl) (ap (λ (o : Outcome). o.samples) (k refl))
 
 -- ---- a call on a state with settings v, as it is judged
-module _ (s : SilkDecoderState) (x : Call) (j : Judged) (v : Settings) (e : frame_refusal (with_settings s v) x ≡ j) (k : x.frame ≡ Lost → v.edition ≡ s.settings.edition) where
+module _ (s : SilkDecoderState) (x : Call) (j : Judged) (v : Settings) (e : frame_refusal (with_settings s v) x ≡ j) (k : x.frame ≡ Lost → LostWith v (shape_at x) (state_at s x) x.control) where
   abbrev p : Shape
   p = shape_at x
 
@@ -158,3 +177,11 @@ module _ (s : SilkDecoderState) (x : Call) (j : Judged) (v : Settings) (e : fram
 pub changed : (f : Result Answer Refusal → Result Answer Refusal) (j : Judged) (a b : Answer) → Ok b ≡ f (Ok a) → ((r : Refusal) → Err r ≡ f (Err r)) → answered j b ≡ f (answered j a)
 changed f (Ok u) a b h g = h
 changed f (Err r) a b h g = g r
+
+-- a lost frame with settings of the same edition
+pub same_edition : (s : SilkDecoderState) (x : Call) (v : Settings) → v.edition ≡ s.settings.edition → x.frame ≡ Lost → LostWith v (shape_at x) (state_at s x) x.control
+unfolding reshaped reshaped_by
+same_edition s x v e z =
+    let p = shape_at x in
+    let t = state_at s x in
+    lost-with v p t x.control (ap (λ (e : ℤ). gain_at e p t) e) (ap (λ (e : ℤ). filter_at e p t) e)

@@ -2,3 +2,4 @@
 pub mod Changed
 pub mod Squelch
 pub mod Editions
+pub mod Losses

@@ -3,6 +3,7 @@
 
 ghost use Rattle.frame_settings.specs.Squelch.{StateAsBefore, SamplesAsBefore, LostAsBefore, PlaysZeros};
 ghost use Rattle.frame_settings.specs.Editions.{ReceivedAlike};
+ghost use Rattle.frame_settings.specs.Losses.{LostAlike};
 
 // A squelch puts zeros in place of a lost frame's samples and changes nothing else.
 #[tactic(auto, using(crate::proofs::Squelch::state_as_before, crate::proofs::Squelch::samples_as_before, crate::proofs::Squelch::lost_as_before, crate::proofs::Squelch::plays_zeros))]
@@ -13,4 +14,9 @@ pub fn squelch_silences()
 // A received frame is the same under both editions.
 pub fn received_alike()
     ensures { ReceivedAlike }
+{}
+
+// So is a lost one in which no step of the stability test leaves 32 bits.
+pub fn lost_alike()
+    ensures { LostAlike }
 {}

@@ -143,7 +143,7 @@ pub fn words_at<T: Word, const N: usize>(b: &[u8], at: usize) -> [T; N]
     words
 }
 
-// `as u8` takes only a number that fits, so that the mask stands here for both heads that are written. layout has one more, for a signed byte.
+// `as u8` takes only a number that fits, so that the mask stands here for both heads that are written.
 pub fn low_byte(x: i32) -> u8
     ensures { result ≡ mod_ℤ x 256 }
 {

@@ -98,7 +98,7 @@ fn answered(rt: &impl Print, l: Line) -> io::Result<()> {
 fn main(rt: HostRuntime) -> io::Result<()> {
     let mut text = [0u8; 65536];
     let n = read_full(&mut rt.stdin(), &mut text)?;
-    // rows has the same loop: a function of both would take a closure that prints and may fail, and spare three lines.
+    // rows, recording_cases and load_written have the same loop: a function of all would take a closure that prints and may fail, and spare three lines.
     for bytes in text[..n].split_inclusive(|b| *b == b'\n') {
         if bytes.ends_with(b"\n") {
             answered(&rt, line_of(bytes))?;

@@ -13,7 +13,8 @@ use load::{after, before, control_of, is_received, lines_of, params_of, pulses_o
 use recorder::{append_lost, append_received, begin};
 use refusal::Refusal;
 
-// One frame more behind frames that are written.
+// One frame more behind frames that are written. recorder's `append` makes this choice of a record, and post_recording's of numbers: a trait of a frame's
+// parts, each with its law, would be longer than the three.
 fn append_drawn(
     bytes: &mut [u8],
     frames: usize,
@@ -34,7 +35,7 @@ fn append_drawn(
     append_received(bytes, frames, rate, subframes, q, c, rows, lines, &pulses)
 }
 
-// A recording of frames of a load from the first on, in lent bytes.
+// A recording of frames of a load from the first on, in lent bytes. Shape, seed and frames stand one by one, as the definitions take them.
 pub fn record_load(
     bytes: &mut [u8],
     rate: i32,
@@ -47,6 +48,7 @@ pub fn record_load(
 {
     begin(bytes, rate, subframes)?;
     let mut x = before(seed, first);
+    // By number, which each frame is appended by: a range of draws that follow one another would be an iterator of its own.
     for i in 0..count {
         append_drawn(bytes, i, rate, subframes, x)?;
         x = after(x);

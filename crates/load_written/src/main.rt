@@ -4,19 +4,17 @@
 #![tactic(auto)]
 
 use checksum::sum;
-use decoder::{Settings, set_up_with};
-use edition::NEWER;
 use input::read_full;
 use line::{Line, line_of};
 use load::{after, before, is_received};
 use load_recording::record_load;
 use load_stream::heard_of;
-use playback::play;
+use playback::{play, set_up_for};
 use refusal::Refusal;
 use std::io;
 use word::bits32;
 
-// Frames that a line asks for.
+// Frames that a line asks for. make_load reads these numbers behind a form: load_recording, below both, takes them one by one, as its definitions do.
 #[derive(Clone, Copy)]
 struct Asked {
     seed: i32,
@@ -33,16 +31,15 @@ struct Heard {
     sum: i32,
 }
 
+// A load's post has a recording's settings. make_load's `write_frames` goes these turns too, but writes each frame: a function of both would take a closure
+// that may fail by its input and output, where these turns fail by a refusal alone.
 #[tactic(auto, using(shape::proofs::Shapes::frame_le))]
 fn load_heard(a: Asked) -> Result<Heard, Refusal> {
-    let settings = Settings {
-        squelch: 0,
-        edition: NEWER,
-    };
-    let mut state = set_up_with(a.rate, a.subframes, settings)?;
+    let mut state = set_up_for(a.rate, a.subframes)?;
     let size = shape::frame_length(a.rate, a.subframes);
     let mut x = before(a.seed, a.first);
     let mut h = Heard { lost: 0, sum: 0 };
+    // Rounds that read no number of their own.
     for _ in 0..a.count {
         let t = heard_of(state, a.rate, a.subframes, x)?;
         let lost = h.lost.saturating_add(u32::from(!is_received(x)));
@@ -106,6 +103,7 @@ fn answered(rt: &impl Print, l: Line) -> io::Result<()> {
         first: bits32(row[4]),
         count: bits32(row[5]),
     };
+    // By number: an enum with a TryFrom, as load_cases has for three kinds, would be longer than these arms.
     match row[0] {
         1 => tell_heard(rt, a),
         2 => tell_written(rt, a),
@@ -117,6 +115,7 @@ fn answered(rt: &impl Print, l: Line) -> io::Result<()> {
 fn main(rt: HostRuntime) -> io::Result<()> {
     let mut text = [0u8; 65536];
     let n = read_full(&mut rt.stdin(), &mut text)?;
+    // load_cases has the same loop, and a line on it.
     for bytes in text[..n].split_inclusive(|b| *b == b'\n') {
         if bytes.ends_with(b"\n") {
             answered(&rt, line_of(bytes))?;

@@ -9,7 +9,6 @@ use lib.ListN.{length, get_or, set, take, drop, take-append-drop}
 use lib.Dec.{lit<}
 use lib.Seq.{length-take-le, take-suc-set, get_or-take, get_or-drop}
 use Rattle.word.specs.Int.{floor_div, mod_ℤ, wrap32}
-use Rattle.word.proofs.Lists.{length_snoc}
 use Rattle.word.proofs.Mod.{mod_ℤ_lt}
 use Rattle.macros.specs.Fixed.{smlawb, rand}
 use Rattle.sigproc.specs.Synthesis.{ltp_prediction}

@@ -26,9 +26,7 @@ use macros::{
 };
 use refusal::Refusal;
 use shape::{FrameShape, Order, Rate, count_of};
-use sigproc::{
-    copy_at, ltp_prediction, scale_out, silk_bwexpander, silk_lpc_analysis_filter, synthesis, weigh,
-};
+use sigproc::{copy_at, ltp_prediction, rewhiten, scale_out, silk_bwexpander, synthesis};
 use stability::{Coefs, inverse_pred_gain};
 use word::{add32, low16, shl32, shr32, sub32, wide16};
 
@@ -181,8 +179,7 @@ fn noise_scale(
 }
 
 // The history rewhitened and divided by the gain, as far back as a prediction reads.
-// decode_core's `Past::rewhiten` has these steps too: it needs a room of 480 places, of which 160 would be cleared here for nothing.
-fn rewhiten(
+fn rewhitened(
     buf: &mut [i32; 640],
     out_buf: &[i16; 480],
     a: &[i16; 16],
@@ -193,16 +190,16 @@ fn rewhiten(
     ensures { take (20 * rate_of frame.fs_khz) buf.new ≡ rewhitened (shape frame.fs_khz frame.nb_subfr) out_buf.now a.now h }
 {
     let lag = lag_of(h.pitch_l_q8) as usize;
-    let order = frame.order();
     let mem = Rate::ltp_mem_length(frame.fs_khz);
     let from = mem - lag - 2;
-    let start = from - order.size();
-    let mut s_ltp = [0; 320];
-    silk_lpc_analysis_filter(&mut s_ltp[start..mem], &out_buf[start..mem], a, order);
-    weigh(
+    let inverse = inverse_gain(h.prev_gain_q16[1]);
+    rewhiten(
         &mut buf[from..mem],
-        &s_ltp[from..mem],
-        inverse_gain(h.prev_gain_q16[1]),
+        from,
+        &out_buf[..mem],
+        a,
+        frame.order(),
+        inverse,
     );
 }
 
@@ -378,7 +375,7 @@ fn voice(
         ≡ voice_by (shape frame.fs_khz frame.nb_subfr) s.now.loss_cnt s.now.prev_signal_type s.now.settings.edition s.now.exc_q14 s.now.out_buf a.now
         (noise_place (shape frame.fs_khz frame.nb_subfr) s.now h) h }
 {
-    rewhiten(buf, &s.out_buf, a, h, frame);
+    rewhitened(buf, &s.out_buf, a, h, frame);
     let k = starting(s.loss_cnt, s.prev_signal_type, h);
     let fading = Fading {
         harm_gain_q15: harm_gain(s.loss_cnt),

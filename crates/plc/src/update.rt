@@ -79,7 +79,8 @@ fn before_end(k: usize, l: usize) -> usize
     (k * l).saturating_sub(128)
 }
 
-// Where noise is drawn from; m and held are the subframes that concealment holds and their length.
+// Where noise is drawn from; m and held are the subframes that concealment holds and their length. By numbers, since it holds at every length and count: a
+// FrameShape would ask callers for one of the rates and for 2 or 4 subframes.
 pub fn noise_place(exc: &[i32], gains: [i32; 2], l: usize, n: usize, m: usize, held: usize) -> usize
     requires { (1 ≤ l) × (l ≤ 80) × (2 ≤ n) × (n ≤ 4) × (1 ≤ m) × (m ≤ 4) × (held ≤ 80) × (length exc.now ≡ 320) }
     ensures { result ≡ place_from (heard_by (get_or gains 0 (pos 0)) (take l (drop ((0 + n - 2) * l) exc.now))) (heard_by (get_or gains 1 (pos 0)) (take l (drop ((1 + n - 2) * l) exc.now))) (pos m) (pos held) }

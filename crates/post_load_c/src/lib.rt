@@ -1,4 +1,5 @@
 // The functions of a load that a Rust or C program links. Each is one call of crate `post_load`, with its contract.
+// Only a static library exports, and no crate can depend on one, so that each stands again.
 #![tactic(auto)]
 
 ghost use Rattle.std.specs.Prelude.{◌≡◌};

@@ -1,22 +1,16 @@
--- What a call leaves.
-use mathlib.Core.Path.{◌≡◌, refl, sym, ap, ◌∙◌}
+-- What a call that the writer judges leaves.
+use mathlib.Core.Path.{◌≡◌, sym, ap, ◌∙◌}
 use mathlib.Core.Bool.{Bool}
 use mathlib.Core.List.{List, [], ◌∷◌}
 use Prim.Native.Nat.{ℕ}
-use Rattle.std.specs.Prelude.{Ok, Err}
+use Rattle.std.specs.Prelude.{Ok}
 use Rattle.refusal.specs.First.{◌gives◌, first_of}
 use Rattle.refusal.specs.Refusals.{Judged, if_accepted}
-use Rattle.refusal.specs.declared.Refusal.{Refusal}
 use Rattle.refusal.specs.declared.Refusal.TheVariants.{Record}
 use Rattle.recorder.specs.Writing.{Left, left}
 use Rattle.post_recording.specs.Sizes.{sized}
 use Rattle.post_recording.proofs.Sizes.{by_content}
 
--- a refused one
-pub stays : {A : Type 0} {j : Judged} {e : Refusal} (new old : A) → j ≡ Err e → old ≡ if_accepted j new old
-stays new old h = rw h refl
-
--- one that the writer judges
 pub written : {q t j : Judged} {s short : Bool} {b : List ℕ} (new old : List ℕ) → q ≡ first_of ((s gives Record) ∷ []) → s ≡ short → q ≡ Ok tt → record { judged = t; bytes = b } ≡ left j new old
     → (t ≡ sized short j) × (b ≡ if_accepted t new old)
 written {t = t} {j = j} new old r l h p =

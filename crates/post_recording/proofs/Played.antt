@@ -1,25 +1,15 @@
 -- What a call that plays a recording answers and leaves.
 use Prim.Native.Nat.{ℕ, ◌≤◌}
 use mathlib.Core.Path.{◌≡◌, sym, ap, subst, ◌∙◌}
-use mathlib.Core.Bool.{false≢true}
 use mathlib.Core.List.{List, ◌++◌}
 use lib.IntN.{ℤ}
 use lib.ListN.{length, drop}
-use Rattle.std.specs.Prelude.{Result, Ok, Err, IfOk, is_ok}
-use Rattle.refusal.specs.Refusals.{Judged, if_accepted, answered}
+use Rattle.std.specs.Prelude.{Result, Ok, Err, IfOk}
+use Rattle.refusal.specs.Refusals.{if_accepted}
 use Rattle.refusal.specs.declared.Refusal.{Refusal}
-use Rattle.refusal.proofs.Clear.{answered_is, accepted}
+use Rattle.refusal.proofs.Clear.{answered_is, accepted, judged_err}
 use Rattle.playback.specs.declared.Played.{Played}
 use Rattle.playback.specs.Playback.{Output, played_samples, play_refusal, play_of}
-
--- a judgement whose value is refused
-judged_err : {A : Type 0} {e : Refusal} (j : Judged) (x : A) → answered j x ≡ Err e → j ≡ Err e
-judged_err (Ok u) x h = absurd (false≢true (sym (ap is_ok h)))
-judged_err {A} (Err r) x h = ap (λ (q : Result A Refusal). Err (row q)) h
-  where
-    row : Result A Refusal → Refusal
-    row (Ok y) = r
-    row (Err s) = s
 
 module _ (b : List ℕ) (out left : List ℤ) (t : Result Played Refusal) (p : record { answer = t; output = left } ≡ play_of b out) where
   pub output-is : left ≡ if_accepted (play_refusal b (length out)) (played_samples b ++ drop (length (played_samples b)) out) out

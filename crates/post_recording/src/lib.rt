@@ -22,6 +22,7 @@ use recorder::{append_lost, append_received, begin};
 use recording::{Recording, read};
 use refusal::{Refusal, code, refuse_if};
 use sigproc::copy_at;
+use word::map_into;
 
 // Rate, subframes, count of frames, and 59 records.
 pub const HEAD: usize = 62;
@@ -31,9 +32,7 @@ fn record_numbers(records: [u8; 60]) -> [i32; 59]
     ensures { result ≡ places records }
 {
     let mut numbers = [0; 59];
-    for (i, x) in numbers.iter_mut().enumerate() {
-        *x = i32::from(records[i]);
-    }
+    map_into(&records[..59], &mut numbers, i32::from);
     numbers
 }
 
@@ -71,7 +70,8 @@ fn short_numbers(frame: usize, coefs: usize) -> bool
     frame < FRAME || coefs < COEFS
 }
 
-// The same, or too few places for its pulses.
+// The same, or too few places for its pulses. post_load's `short_load` is this test too: one for both would be a public function of layout, with a definition
+// there, for one line.
 #[tactic(auto, unfolding(crate::specs::Sizes::short_frame))]
 fn short_frame(frame: usize, coefs: usize, pulses: usize) -> bool
     ensures { result ≡ short_frame frame coefs pulses }
@@ -79,7 +79,7 @@ fn short_frame(frame: usize, coefs: usize, pulses: usize) -> bool
     short_numbers(frame, coefs) || pulses < 320
 }
 
-// The frame of a record, put into the slices.
+// The frame of a record, put into the slices, which stand apart as the C interface lends them.
 #[tactic(auto, using(crate::proofs::Sizes::long))]
 fn put_record(
     r: &Record,
@@ -135,7 +135,7 @@ fn frame_into(
     Ok(())
 }
 
-// A frame by its number, counted from 1 along the chain.
+// A frame by its number, counted from 1 along the chain. C interface: each slice is a parameter.
 pub fn post_recording_frame(
     bytes: &[u8],
     number: u32,
@@ -183,7 +183,8 @@ pub fn post_recording_begin(bytes: &mut [u8], rate: i32, subframes: i32) -> i32
     code(begin(bytes, rate, subframes))
 }
 
-// The judgement of post_recording_append, and the bytes.
+// The judgement of post_recording_append, and the bytes. recorder's `append` makes this choice of a record, and load_recording's `append_drawn` of a draw: a
+// trait of a frame's parts, each with its law, would be longer than the three.
 fn append(
     bytes: &mut [u8],
     frames: usize,

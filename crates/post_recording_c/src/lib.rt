@@ -1,4 +1,5 @@
 // The functions of recordings that a Rust or C program links. Each is one call of crate `post_recording` or `post_single_loss`, with its contract.
+// Only a static library exports, and no crate can depend on one, so that each stands again.
 #![tactic(auto)]
 
 ghost use Rattle.std.specs.Prelude.{◌≡◌};

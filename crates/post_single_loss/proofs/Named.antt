@@ -7,12 +7,12 @@ use native.Mathlib.Omega.{arith}
 use lib.Dec.{ltb}
 use lib.IntN.{ℤ}
 use lib.ListN.{length}
-use Rattle.std.specs.Prelude.{Option, Some, None, Result, Ok, Err, is_ok}
+use Rattle.std.specs.Prelude.{Option, Some, None, Ok, Err, is_ok}
 use Rattle.refusal.specs.First.{◌gives◌, first_of}
-use Rattle.refusal.specs.Refusals.{Judged, code_of, if_accepted, answered}
+use Rattle.refusal.specs.Refusals.{Judged, code_of, if_accepted}
 use Rattle.refusal.specs.declared.Refusal.{Refusal}
 use Rattle.refusal.specs.declared.Refusal.TheVariants.{Record}
-use Rattle.refusal.proofs.Clear.{refuses, accepted, clear, answered_is, answered_ok}
+use Rattle.refusal.proofs.Clear.{refuses, accepted, clear, judged_err, answered_is, answered_ok}
 use Rattle.recording.specs.Frames.{frames_in}
 use Rattle.recording.specs.Reading.{read_refusal, read_of}
 use Rattle.recording.proofs.Accepted.{few, frames_count}
@@ -21,15 +21,6 @@ use Rattle.single_loss.specs.Answer.{loss_refusal, culprit_at, loss_answer}
 use Rattle.single_loss.specs.Claims.{Means}
 use Rattle.single_loss.proofs.Smallest.{answer_means}
 use Rattle.post_single_loss.specs.Call.{number_of, loss_number, loss_judged}
-
--- a judgement whose value is refused
-judged_err : {A : Type 0} {e : Refusal} (j : Judged) (x : A) → answered j x ≡ Err e → j ≡ Err e
-judged_err (Ok u) x h = absurd (false≢true (sym (ap is_ok h)))
-judged_err {A} (Err r) x h = ap (λ (q : Result A Refusal). Err (row q)) h
-  where
-    row : Result A Refusal → Refusal
-    row (Ok y) = r
-    row (Err s) = s
 
 -- what is not refused behind a judgement was not refused by it
 behind : (j k : Judged) → code_of (if_accepted j k j) ≡ 0 → j ≡ Ok tt
@@ -88,7 +79,3 @@ module _ (b : List ℕ) (l : ℤ) where
     pub by_content : q ≡ Ok tt → loss_judged b l n ≡ loss_refusal b l
     unfolding loss_judged
     by_content h = rw (enough h) refl
-
--- a refused call
-pub stays : {A : Type 0} {j : Judged} {e : Refusal} (new old : A) → j ≡ Err e → old ≡ if_accepted j new old
-stays new old h = rw h refl

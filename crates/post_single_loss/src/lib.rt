@@ -11,7 +11,7 @@ use refusal::{Refusal, code, refuse_if};
 use sigproc::copy_at;
 use single_loss::single_loss;
 
-// A frame's number, and 0 for none.
+// A frame's number, and 0 for none: the C interface's slice holds no Option.
 #[tactic(auto, unfolding(crate::specs::Call::number_of))]
 fn number_of(found: Option<usize>) -> i32
     requires { number_of found ≤ 60 }

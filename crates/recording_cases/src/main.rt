@@ -25,6 +25,7 @@ enum Asked {
 #[derive(Clone, Copy)]
 struct Unknown;
 
+// load_cases has another such enum: an impl is of one type, and a table of cases would be longer than these three arms.
 impl TryFrom<i32> for Asked {
     type Error = Unknown;
 
@@ -38,7 +39,7 @@ impl TryFrom<i32> for Asked {
     }
 }
 
-// A place or a count.
+// A place or a count. replay has this function too, with a clause that its buffers need: one line, of two programs.
 fn size(n: i32) -> usize {
     bits32(n) as usize
 }
@@ -62,6 +63,7 @@ struct Counted {
     sum: i32,
 }
 
+// load_written has this fold too: `sum` goes over word's Numbers, which have a sign, and an impl for bytes would serve these two lines alone.
 fn summed(bytes: &[u8]) -> Counted {
     Counted {
         size: bytes.len(),
@@ -132,6 +134,7 @@ fn main(rt: HostRuntime) -> io::Result<()> {
     let mut text = [0u8; 131072];
     let mut file = [0u8; 65536];
     let n = read_full(&mut rt.stdin(), &mut text)?;
+    // load_cases has the same loop, and a line on it.
     for bytes in text[..n].split_inclusive(|b| *b == b'\n') {
         if bytes.ends_with(b"\n") {
             answered(&rt, &mut file, line_of(bytes))?;

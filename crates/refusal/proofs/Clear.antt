@@ -99,6 +99,19 @@ answered_err j x h = rw h refl
 pub answered_ok : {A : Type 0} (j : Judged) (x : A) → j ≡ Ok tt → answered j x ≡ Ok x
 answered_ok j x h = rw h refl
 
+-- a call that is refused was refused by its judgement
+pub judged_err : {A : Type 0} {e : Refusal} (j : Judged) (x : A) → answered j x ≡ Err e → j ≡ Err e
+judged_err (Ok u) x h = absurd (false≢true (sym (ap is_ok h)))
+judged_err {A} (Err r) x h = ap (λ (q : Result A Refusal). Err (row q)) h
+  where
+    row : Result A Refusal → Refusal
+    row (Ok y) = r
+    row (Err s) = s
+
+-- and leaves what was there
+pub stays : {A : Type 0} {j : Judged} {e : Refusal} (new old : A) → j ≡ Err e → old ≡ if_accepted j new old
+stays new old h = rw h refl
+
 -- what is known of a call that isn't refused
 pub answered_is : {A : Type 0} (j : Judged) (x y : A) → answered j x ≡ Ok y → (code_of j ≡ 0) × (x ≡ y)
 answered_is (Ok u) x y h = (refl, ap (value y) h)

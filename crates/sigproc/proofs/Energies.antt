@@ -8,7 +8,7 @@ use lib.Pow.{split}
 use Rattle.word.specs.Size.{Bounded}
 use Rattle.word.proofs.Lists.{beyond}
 use Rattle.macros.specs.Fixed.{clz32}
-use Rattle.sigproc.specs.Energy.{square, pairs, energy_at, first_shift, energy_shift, sum_sqr_shift}
+use Rattle.sigproc.specs.Energy.{square, pairs, energy_at, first_shift, energy_shift}
 
 -- ---- the samples in pairs
 pub energy_even : (x : List ℤ) (s : ℕ) → length x % 2 ≡ 0 → energy_at x s ≡ pairs x s (length x / 2)

@@ -10,3 +10,4 @@ pub mod Filter
 pub mod Coefficients
 pub mod InPlace
 pub mod Frames
+pub mod Stretch

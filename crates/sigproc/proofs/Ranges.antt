@@ -1,18 +1,17 @@
 -- Every result is in the range of its type, and every list has its length.
-use Rattle.std.proofs.Common.{◌≡◌, ℕ, zero, suc, ◌+◌, ◌-◌, ◌^◌, ◌≤◌, ltb, List, ◌++◌, length, get_or, take, drop, ℤ, pos, arith, w16, w32, SFits}
+use Rattle.std.proofs.Common.{◌≡◌, ℕ, zero, suc, ◌+◌, ◌-◌, ◌^◌, List, ◌++◌, length, get_or, take, drop, ℤ, pos, w16, w32, SFits}
 use mir.Syntax.{Width}
 use mir.Val.{hbits}
 use Rattle.word.specs.Size.{Bounded}
 use Rattle.word.proofs.Words.{wrap-fits}
 use Rattle.word.proofs.Sizes.{fits-abs}
-use Rattle.word.proofs.Order.{cond_fits, sat16-fits, sat32-fits}
+use Rattle.word.proofs.Order.{sat16-fits, sat32-fits}
 use Rattle.word.proofs.Lists.{length-tabulate}
-use Rattle.word.proofs.Fits.{zero_fits, AllFit, one-fits, append-fits, take-fits, drop-fits, set-fits, tabulate-fits}
-use Rattle.macros.proofs.Ranges.{smlawb-fits}
+use Rattle.word.proofs.Fits.{AllFit, one-fits, append-fits, take-fits, drop-fits, set-fits}
 use Rattle.sigproc.specs.Place.{put_at, rotate_left, update_out_buf}
-use Rattle.sigproc.specs.Expand.{factor, shrunk, bwexpander}
+use Rattle.sigproc.specs.Expand.{shrunk, bwexpander}
 use Rattle.sigproc.specs.Analysis.{residual, analysis}
-use Rattle.sigproc.specs.Synthesis.{ltp_prediction, prediction, synthesised, synthesis, played_q10, played}
+use Rattle.sigproc.specs.Synthesis.{synthesised, synthesis, played_q10, played}
 
 pub fit_bounded : {w : Width} (xs : List ℤ) → AllFit w xs → Bounded (2 ^ hbits w) xs
 fit_bounded xs h i = fits-abs (get_or xs i (pos 0)) (h i)

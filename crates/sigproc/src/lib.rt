@@ -3,6 +3,7 @@
 #![tactic(auto)]
 
 ghost use Rattle.std.specs.Prelude.{◌≡◌, ◌+◌, ◌-◌, ◌*◌, ◌%◌, ◌^◌, ◌<◌, ◌≤◌, ◌++◌, map, length, take, drop, unsigned_abs};
+ghost use Rattle.word.specs.Tabulate.{tabulate};
 ghost use Rattle.macros.specs.Fixed.{smulwb};
 ghost use Rattle.shape.specs.Order.{size};
 ghost use Rattle.sigproc.specs.Place.{put_at, update_out_buf};
@@ -118,6 +119,28 @@ pub fn weigh(to: &mut [i32], residual: &[i16], inverse: i32)
     ensures { to.new ≡ map (smulwb inverse) residual.now }
 {
     map_into(residual, to, |r| silk_smulwb(inverse, wide16(r)));
+}
+
+// Rewhitening: the residual of a history from place from on, by the inverse of a gain. The longest lag, 288, asks for 306 places of the history.
+// The place stands beside the history, since the definition counts from its front.
+pub fn rewhiten(
+    to: &mut [i32],
+    from: usize,
+    history: &[i16],
+    row: &[i16; 16],
+    order: Order,
+    inverse: i32,
+)
+    requires { (size order ≤ from) × (from + length to.old ≤ length history.now) × (size order + length to.old ≤ 320) }
+    ensures { to.new ≡ tabulate (length to.old) (λ t. smulwb inverse (residual history.now row.now (size order) (from + t))) }
+{
+    let d = order.size();
+    let start = from - d;
+    let n = d + to.len();
+    let mut room = [0; 320];
+    let left = &mut room[..n];
+    silk_lpc_analysis_filter(left, &history[start..start + n], row, order);
+    weigh(to, &left[d..], inverse);
 }
 
 // The energy of samples: energy times 2 ^ shift.

@@ -175,6 +175,8 @@ pub fn map_into<A: Copy, B: Copy, F: Fn(A) -> B>(from: &[A], to: &mut [B], f: F)
     requires room { length to.old ≡ length from.now }
     ensures { AllZip (λ x y. F.post f x y) from.now to.new }
 {
+    // The slice's length, which the compiler now knows, makes the loop's test of a place needless.
+    let to = &mut to[..from.len()];
     for (i, x) in from.iter().enumerate() {
         to[i] = f(*x);
     }

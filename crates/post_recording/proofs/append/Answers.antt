@@ -4,13 +4,13 @@ use native.Mathlib.Omega.{arith}
 use lib.ListN.{length}
 use mir.Syntax.{w32}
 use Rattle.word.proofs.Words.{got}
-use Rattle.refusal.proofs.Clear.{at_err}
+use Rattle.refusal.proofs.Clear.{at_err, stays}
 use Rattle.layout.specs.Frame.{FRAME, COEFS, rate_in, subframes_in}
 use Rattle.record.specs.Recorded.{received}
 use Rattle.recorder.specs.Writing.{append_refusal, append_of}
 use Rattle.post_recording.specs.Writing.{recorded_of, lent, append_judged}
 use Rattle.post_recording.proofs.Sizes.{long_numbers, too_short, enough}
-use Rattle.post_recording.proofs.Ends.{stays, written}
+use Rattle.post_recording.proofs.Ends.{written}
 use Rattle.post_recording.proofs.append.Goals.{In_ok-refuse_if}
 use Rattle.post_recording.proofs.append.Goals as goal
 

@@ -3,7 +3,7 @@ use mathlib.Core.Path.{◌≡◌, sym, ap, ◌∙◌}
 use native.Mathlib.Omega.{arith}
 use lib.ListN.{get_or, drop}
 use Rattle.std.specs.Prelude.{Ok}
-use Rattle.refusal.proofs.Clear.{at_err}
+use Rattle.refusal.proofs.Clear.{at_err, stays}
 use Rattle.sigproc.specs.Place.{put_at}
 use Rattle.record.specs.Recorded.{recorded_in}
 use Rattle.recording.specs.Frames.{recorded_at}
@@ -13,7 +13,6 @@ use Rattle.playback.proofs.Read.{rate-back, count-back}
 use Rattle.post_recording.specs.Reading.{frame_of, coefs_of, pulses_of, number_refusal, frame_judged}
 use Rattle.post_recording.proofs.Sizes.{too_short, enough, by_content}
 use Rattle.post_recording.proofs.Told.{read_is, by_number, not_read_either, frame_is, counted}
-use Rattle.post_recording.proofs.Ends.{stays}
 use Rattle.post_recording.proofs.frame_into.Goals.{In_ok-r, In_ok-refuse_if-2}
 use Rattle.post_recording.proofs.frame_into.Goals as goal
 

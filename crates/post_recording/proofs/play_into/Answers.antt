@@ -4,13 +4,12 @@ use borrow.Author.Tests.{ltb-false}
 use lib.IntN.{pos}
 use lib.ListN.{length, drop}
 use Rattle.refusal.specs.Refusals.{Judged, if_accepted}
-use Rattle.refusal.proofs.Clear.{at_err}
+use Rattle.refusal.proofs.Clear.{at_err, stays}
 use Rattle.sigproc.specs.Place.{put_at}
 use Rattle.playback.specs.Playback.{played_samples, play_refusal}
 use Rattle.post_recording.specs.Reading.{play_judged}
 use Rattle.post_recording.proofs.Sizes.{too_short, enough, by_content}
 use Rattle.post_recording.proofs.Played.{output-is, refused, played_is, few_samples}
-use Rattle.post_recording.proofs.Ends.{stays}
 use Rattle.post_recording.proofs.play_into.Goals as goal
 
 pub returns-in_err-refuse_if : goal.returns-in_err-refuse_if

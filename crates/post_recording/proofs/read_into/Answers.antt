@@ -2,7 +2,7 @@ use mathlib.Core.Path.{◌≡◌, refl, sym, ap, ◌∙◌}
 use lib.ListN.{length}
 use borrow.Author.Tests.{ltb-false}
 use Rattle.std.specs.Prelude.{Ok}
-use Rattle.refusal.proofs.Clear.{at_err}
+use Rattle.refusal.proofs.Clear.{at_err, stays}
 use Rattle.sigproc.specs.Place.{put_at}
 use Rattle.recording.specs.Reading.{read_refusal, read_of}
 use Rattle.recording.proofs.Accepted.{not_read, few}
@@ -10,7 +10,6 @@ use Rattle.post_recording.specs.Sizes.{HEAD}
 use Rattle.post_recording.specs.Reading.{read_judged}
 use Rattle.post_recording.proofs.Sizes.{too_short, enough, by_content}
 use Rattle.post_recording.proofs.Told.{head_is, read_is}
-use Rattle.post_recording.proofs.Ends.{stays}
 use Rattle.post_recording.proofs.read_into.Goals.{In_ok-r}
 use Rattle.post_recording.proofs.read_into.Goals as goal
 

@@ -6,10 +6,10 @@ use lib.ListN.{length}
 use mir.Syntax.{w32}
 use mir.Facts.{to_z-of_z}
 use Rattle.word.proofs.Words.{got}
-use Rattle.refusal.proofs.Clear.{at_err}
+use Rattle.refusal.proofs.Clear.{at_err, stays}
 use Rattle.sigproc.specs.Place.{put_at}
 use Rattle.single_loss.specs.Answer.{loss_answer}
-use Rattle.post_single_loss.proofs.Named.{refused, not_refused, named, small, too_short, enough, by_content, stays}
+use Rattle.post_single_loss.proofs.Named.{refused, not_refused, named, small, too_short, enough, by_content}
 use Rattle.post_single_loss.proofs.find_into.Goals as goal
 
 pub returns-in_err-refuse_if : goal.returns-in_err-refuse_if

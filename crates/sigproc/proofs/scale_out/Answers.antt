@@ -1,5 +1,4 @@
-use Rattle.std.proofs.Common.{◌≡◌, ◌^◌, ◌∙◌, pos, rules, to_z-of_z, to_z, of_z, w32}
-use Rattle.word.specs.Int.{floor_div}
+use Rattle.std.proofs.Common.{◌≡◌, ◌∙◌, rules, to_z-of_z, to_z, of_z, w32}
 use Rattle.word.proofs.Each.{map_of_each}
 use Rattle.word.proofs.Words.{kept}
 use Rattle.sigproc.specs.Synthesis.{played_q10, played}

@@ -1,4 +1,4 @@
-use Rattle.std.proofs.Common.{◌≡◌, ap, ◌∙◌, rules, to_z-of_z, to_z, of_z, w32}
+use Rattle.std.proofs.Common.{◌≡◌, rules, to_z-of_z, to_z, of_z, w32}
 use Rattle.macros.specs.Fixed.{smulwb}
 use Rattle.word.proofs.Each.{map_of_each}
 use Rattle.sigproc.proofs.weigh.Goals as goal

@@ -28,8 +28,8 @@ room c =
     let b = plc_held-bounds r a.h c.requires.1 in
     rw c.place-from.ensures (noise_room (shape a.frame.fs_khz a.frame.nb_subfr) a.s.now a.h (rate_le a.frame.fs_khz) (subframes-fit r _ _ b.subframes))
 
-pub rewhiten-requires : goal.rewhiten-requires
-rewhiten-requires c =
+pub rewhitened-requires : goal.rewhitened-requires
+rewhitened-requires c =
     let b = plc_held-bounds (rate_of c.args.frame.fs_khz) c.args.h c.requires.1 in
     (c.requires.0, between-back _ b.pitch_l_q8)
 
@@ -80,9 +80,9 @@ returns c =
     let from = c.place-from.result in
     let g = to_z w32 (of_z w32 c.harm_gain.result) in
     let f = to_z w32 (of_z w32 c.noise_gain.result) in
-    let v = voice_of (take (20 * r) c.rewhiten.new.buf) c.starting-k.result in
+    let v = voice_of (take (20 * r) c.rewhitened.new.buf) c.starting-k.result in
     let drawn : c.unwrap-noise.result.now ≡ take 128 (drop from s.exc_q14) = search rules in
     c.subframes.ensures
     ∙ (λ i. voices p (drawn i) 0 g f n v)
     ∙ voices_part p s.exc_q14 from g f n v
-    ∙ (λ i. voices p s.exc_q14 (c.place-from.ensures i) (harm i) (noise i) n (voice_of (c.rewhiten.ensures i) (k i)))
+    ∙ (λ i. voices p s.exc_q14 (c.place-from.ensures i) (harm i) (noise i) n (voice_of (c.rewhitened.ensures i) (k i)))
