@@ -64,7 +64,9 @@ enum {
     POST_ANSWER = 2,
     POST_VALUE = 1,
     POST_TEXT = 64,
-    POST_HEAD = 62
+    POST_HEAD = 62,
+    POST_LISTENERS = 16,
+    POST_COUNTS = 48
 };
 
 /* The samples of the longest frame; pulses and output need no more, and 5rn are enough. */
@@ -117,10 +119,10 @@ enum post_refusal {
     POST_PULSES = 10,      /* fewer than 5rn pulses */
     POST_SPEAKER = 11,     /* fewer than 5rn samples of output */
     POST_LENGTH = 12,      /* gluing or noise alone: length 0, above 320 or above the buffer; load:
-                              number above 2,147,483,646 */
+                              number above 2,147,483,646; trial: more than 2,147,483,647 frames */
     POST_ORDER = 13,       /* stability: order not 1 to 16; filter: not 10 or 16; or a slice of
                               coefficients or lines is shorter than it */
-    POST_SQUELCH = 14,     /* set-up: squelch not in 0 to 10,000; in a state it is 3 */
+    POST_SQUELCH = 14,     /* set-up, trial: squelch not in 0 to 10,000; in a state it is 3 */
     POST_PLACE = 17,       /* cosine: place above 128; rising check: order not 10 or 16, or fewer lines */
     POST_CHAIN = 20,       /* recording: a next number is past the end or met before, or there is no
                               frame of the number */
@@ -137,7 +139,7 @@ enum post_refusal {
  * may be loud and stay so; no rising lines are known to do it, and concealment never does. */
 enum post_edition { POST_RFC_6716 = 6716, POST_RFC_8251 = 8251 };
 
-/* A state for 8, 12 or 16 kHz and 2 or 4 subframes, with a squelch of 0 and the edition 8251. Refused by
+/* A state for 8, 12 or 16 kHz and 2 or 4 subframes, with a squelch of 50 and the edition 8251. Refused by
  * 1, 2. */
 int32_t post_set_up(int32_t rate, int32_t subframes,
                     int32_t *words, size_t words_len, int16_t *halves, size_t halves_len);
@@ -239,6 +241,17 @@ int32_t post_load_leap(int32_t seed, uint64_t draws);
 
 /* The count of draws, 1 to 2^32, that undoes as many: after both the generator is where it was. */
 uint64_t post_load_undoing(uint64_t draws);
+
+/* A trial: sixteen listeners, each with a seed, follow the first frames of the load of a shape and a seed,
+ * its losses replaced by those of a two-state link: good at first, lost while bad. After each frame a state
+ * is left if the top 16 bits of the listener's next draw are below its number, leave_good or leave_bad.
+ * counts     each listener's frames received, 16; those concealed, 16; those squelched, 16, by a post that
+ *            is set up with the squelch. The three of a listener add up to frames
+ * No frame is decoded: 2,147,483,647 frames take about two minutes. Refused by 1, 2, 12, 14; by -1 for
+ * fewer than 16 seeds or 48 counts. */
+int32_t post_trial(int32_t rate, int32_t subframes, int32_t seed, int32_t squelch, uint32_t frames,
+                   uint16_t leave_good, uint16_t leave_bad, const int32_t *seeds, size_t seeds_len,
+                   uint32_t *counts, size_t counts_len);
 
 /* The functions of recordings, in libpost_recording.a. docs/RECORDINGS.md has the form of the bytes and
  * what to do about each refusal. They refuse in this order: 21 for a length or a slice that is too

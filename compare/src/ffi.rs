@@ -115,6 +115,8 @@ unsafe extern "C" {
         coefs: *mut i16, coefs_len: usize, pulses: *mut i16, pulses_len: usize) -> i32;
     fn post_load_leap(seed: i32, draws: u64) -> i32;
     fn post_load_undoing(draws: u64) -> u64;
+    fn post_trial(rate: i32, subframes: i32, seed: i32, squelch: i32, frames: u32, leave_good: u16, leave_bad: u16,
+        seeds: *const i32, seeds_len: usize, counts: *mut u32, counts_len: usize) -> i32;
 }
 
 #[rustfmt::skip]
@@ -131,6 +133,13 @@ pub fn load_leap(seed: i32, draws: u64) -> i32 {
 
 pub fn load_undoing(draws: u64) -> u64 {
     unsafe { post_load_undoing(draws) }
+}
+
+#[rustfmt::skip]
+pub fn trial([rate, subframes, seed, squelch]: [i32; 4], frames: u32, [good, bad]: [u16; 2], seeds: &[i32], counts: &mut [u32]) -> i32 {
+    unsafe {
+        post_trial(rate, subframes, seed, squelch, frames, good, bad, seeds.as_ptr(), seeds.len(), counts.as_mut_ptr(), counts.len())
+    }
 }
 
 pub fn single_loss(bytes: &[u8], limit: i32, number: &mut [i32]) -> i32 {

@@ -20,7 +20,7 @@ unsafe extern "C" fn set_up(player: *mut Player, shape: &Shape) {
     let length = shape.frame_length as usize;
     let (words, halves, frame, coefs, output) = ([0; WORDS], [0; HALVES], [0; FRAME], [0; COEFS], [0; 320]);
     let mut made = Player { words, halves, frame, coefs, pulses: &[], output, room: length, length };
-    assert_eq!(ffi::set_up(shape.fs_khz, shape.nb_subfr, &mut made.words, &mut made.halves), 0);
+    assert_eq!(ffi::set_up_with(shape.fs_khz, shape.nb_subfr, 0, 8251, &mut made.words, &mut made.halves), 0);
     unsafe { player.write(made) }
 }
 

@@ -26,6 +26,7 @@ mod shrink;
 mod side;
 mod single_loss;
 mod streams;
+mod trials;
 mod vectors;
 
 use call::What;
@@ -35,7 +36,7 @@ use std::path::{Path, PathBuf};
 use std::process::ExitCode;
 
 const USAGE: &str = "compare/run SOURCES [--seed S] [--from CASE] [--count N] [--streams STREAMS] [--self] [WHAT ...]";
-const OTHERS: [&str; 8] = ["rows", "lists", "recordings", "single_loss", "load", "streams", "firmware", "examples"];
+const OTHERS: [&str; 9] = ["rows", "lists", "recordings", "single_loss", "load", "trial", "streams", "firmware", "examples"];
 
 fn main() -> ExitCode {
     let words: Vec<String> = std::env::args().skip(1).collect();
@@ -116,6 +117,10 @@ fn run(words: &[&str]) -> Result<bool, String> {
     if wanted("load") {
         let linked = options.own || loads::LINKED;
         outcomes.push(if linked { options.load() } else { absent("load") });
+    }
+    if wanted("trial") {
+        let linked = options.own || trials::LINKED;
+        outcomes.push(if linked { options.trials() } else { absent("trial") });
     }
     for name in ["streams", "firmware"].into_iter().filter(|name| wanted(name)) {
         match &files {

@@ -1,7 +1,7 @@
 //! The reference in the library's place: each exported function that the library lacks.
 
 use crate::reference::{self, Settings};
-use crate::{loads, recording, single_loss};
+use crate::{loads, recording, single_loss, trials};
 use std::slice::{from_raw_parts as part, from_raw_parts_mut as part_mut};
 
 type Longs = *mut i32;
@@ -142,6 +142,13 @@ unsafe extern "C" fn post_load_leap(seed: i32, draws: u64) -> i32 {
 #[unsafe(no_mangle)]
 unsafe extern "C" fn post_load_undoing(draws: u64) -> u64 {
     loads::post_load_undoing(draws)
+}
+
+#[cfg(not(has_trial))]
+#[unsafe(no_mangle)]
+unsafe extern "C" fn post_trial(rate: i32, subframes: i32, seed: i32, squelch: i32, frames: u32, good: u16, bad: u16, s: *const i32, sn: usize,
+    c: *mut u32, cn: usize) -> i32 {
+    unsafe { trials::post_trial([rate, subframes, seed, squelch], frames, [good, bad], part(s, sn), part_mut(c, cn)) }
 }
 
 #[cfg(not(has_single_loss))]

@@ -451,7 +451,7 @@ pub fn set_up(rate: i32, subframes: i32) -> SilkDecoderState {
 }
 
 pub fn post_set_up(rate: i32, subframes: i32, words: &mut [i32], halves: &mut [i16]) -> i32 {
-    post_set_up_with(rate, subframes, Settings::default(), words, halves)
+    post_set_up_with(rate, subframes, Settings { squelch: 50, ..Settings::default() }, words, halves)
 }
 
 pub fn post_set_up_with(rate: i32, subframes: i32, settings: Settings, words: &mut [i32], halves: &mut [i16]) -> i32 {

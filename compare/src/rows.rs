@@ -635,7 +635,7 @@ fn squelches(t: &mut Table) {
     fn named(d: &mut Draft, rate: i32, subframes: i32, squelch: i32) {
         (d.rate, d.subframes, d.named.squelch, d.settings.squelch) = (rate, subframes, squelch, 7);
     }
-    t.outcome(SetUp, "the default squelch is 0", 0, |d| named(d, 8, 2, 9), |_, c| c.words[SQUELCH] == 0);
+    t.outcome(SetUp, "the default squelch is 50", 0, |d| named(d, 8, 2, 9), |_, c| c.words[SQUELCH] == 50);
     t.outcome(SetUpWith, "squelch 0", 0, |d| named(d, 8, 2, 0), |s, c| (s.fs_khz, c.words[SQUELCH]) == (8, 0));
     t.outcome(SetUpWith, "squelch 1", 0, |d| named(d, 8, 2, 1), |_, c| c.words[SQUELCH] == 1);
     t.outcome(SetUpWith, "squelch 50", 0, |d| named(d, 16, 4, 50), |_, c| c.words[SQUELCH] == 50);

@@ -6,7 +6,7 @@
 
 mod stream;
 
-use post::{Description, Post, Refusal, Shape, ffi};
+use post::{Description, Post, Refusal, Settings, Shape, ffi};
 use std::{env, process::ExitCode};
 use stream::Stream;
 
@@ -39,7 +39,8 @@ struct Start {
 fn starts(file: &str) -> Result<Vec<Start>, String> {
     let refused = |why: Refusal| format!("{file}: a frame is refused: {why}");
     let stream = Stream::read(file)?;
-    let mut post = Post::set_up(stream.shape).map_err(refused)?;
+    let unsquelched = Settings { squelch: 0, ..Settings::default() };
+    let mut post = Post::set_up_with(stream.shape, unsquelched).map_err(refused)?;
     let order = if stream.shape.rate == 16 { 16 } else { 10 };
     let mut best = KINDS.map(|_| (0, None));
     let mut output = vec![];

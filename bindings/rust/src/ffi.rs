@@ -23,6 +23,11 @@ pub const HEAD: usize = 62;
 /// A recorded frame's pulses, which are the samples of the longest frame.
 pub const PULSES: usize = 320;
 
+/// The listeners of a trial.
+pub const LISTENERS: usize = 16;
+/// A trial's counts: each listener's received frames, then the concealed ones, then the squelched ones.
+pub const COUNTS: usize = 48;
+
 /// Where some of the state's numbers stand in its slice of [`WORDS`].
 pub mod words {
     /// The rate that the state holds, in kHz.
@@ -143,6 +148,10 @@ unsafe extern "C" {
     ) -> i32;
     fn post_load_leap(seed: i32, draws: u64) -> i32;
     fn post_load_undoing(draws: u64) -> u64;
+    fn post_trial(
+        rate: i32, subframes: i32, seed: i32, squelch: i32, frames: u32, leave_good: u16, leave_bad: u16, seeds: *const i32,
+        seeds_len: usize, counts: *mut u32, counts_len: usize,
+    ) -> i32;
 }
 
 /// `post_set_up`.
@@ -328,6 +337,20 @@ pub fn load_leap(seed: i32, draws: u64) -> i32 {
 pub fn load_undoing(draws: u64) -> u64 {
     // SAFETY: no pointer is lent.
     unsafe { post_load_undoing(draws) }
+}
+
+/// `post_trial`.
+#[cfg(feature = "load")]
+#[allow(clippy::too_many_arguments)]
+pub fn trial(
+    rate: i32, subframes: i32, seed: i32, squelch: i32, frames: u32, leave_good: u16, leave_bad: u16, seeds: &[i32], counts: &mut [u32],
+) -> i32 {
+    // SAFETY: each pointer is lent with its own slice's length, for the call alone.
+    unsafe {
+        post_trial(
+            rate, subframes, seed, squelch, frames, leave_good, leave_bad, seeds.as_ptr(), seeds.len(), counts.as_mut_ptr(), counts.len(),
+        )
+    }
 }
 
 /// `post_single_loss`.

@@ -5,7 +5,8 @@
 //! bytes of stack, [`Recording::play`] up to 69,696 and [`Recording::single_loss`] up to 85,984. The library, which `tools/staticlib post` builds or
 //! POST_LIBRARY names, is for x86-64 Linux alone. Features, which are on unless they are turned off, have archives of their own: `filters`, which
 //! `tools/staticlib post_filters` builds, has [`stability`], [`sentence`], [`filter`], [`cosine`] and [`is_rising`]; `recording`, by
-//! `tools/staticlib post_recording`, has [`Recording`] and [`Writer`]; `load`, by `tools/staticlib post_load`, has [`Load`], [`leap`] and [`undoing`].
+//! `tools/staticlib post_recording`, has [`Recording`] and [`Writer`]; `load`, by `tools/staticlib post_load`, has [`Load`] with its trial,
+//! [`leap`] and [`undoing`].
 //!
 //! ```
 //! use post::{Description, Params, Post, Shape};
@@ -38,7 +39,7 @@ mod recording;
 #[cfg(feature = "filters")]
 pub use filters::{Sentence, Stability, cosine, filter, is_rising, sentence, stability};
 #[cfg(feature = "load")]
-pub use load::{Drawn, Load, leap, undoing};
+pub use load::{Drawn, Heard, Link, Load, leap, undoing};
 #[cfg(feature = "recording")]
 pub use recording::{Recording, Writer};
 
@@ -70,7 +71,8 @@ pub enum Refusal {
     Pulses = 10,
     /// Fewer than 5rn output samples were lent.
     Speaker = 11,
-    /// Gluing or noise alone: the length is 0, above 320 or above the buffer. A load: the frame's number is above 2,147,483,646.
+    /// Gluing or noise alone: the length is 0, above 320 or above the buffer. A load: the frame's number is above 2,147,483,646. A trial: more than
+    /// 2,147,483,647 frames.
     Length = 12,
     /// Stability test or filter from lines: the order is none, or a slice is shorter than it.
     Order = 13,
@@ -192,15 +194,21 @@ impl Edition {
     }
 }
 
-/// What a post is set up with beside its shape. No frame changes it.
-#[derive(Clone, Copy, Default, PartialEq, Eq, Debug)]
+/// What a post is set up with beside its shape. No frame changes it. The default is a squelch of 50 and the newer edition.
+#[derive(Clone, Copy, PartialEq, Eq, Debug)]
 pub struct Settings {
     /// 0 to 10,000. From the loss on that makes the count of losses this many, a lost frame plays zeros, while the state and the description
-    /// change as without it; 0, the default, means never. Only [`Post::lost`] goes by it: the stages alone play what they play.
+    /// change as without it; 0 means never. Only [`Post::lost`] goes by it: the stages alone play what they play.
     pub squelch: i32,
     /// The edition by which concealment and comfort noise test their filters. Under the older one the noise of lines in no order may be loud
     /// and stay so, which concealment never does.
     pub edition: Edition,
+}
+
+impl Default for Settings {
+    fn default() -> Settings {
+        Settings { squelch: 50, edition: Edition::default() }
+    }
 }
 
 /// The small numbers of a received frame.

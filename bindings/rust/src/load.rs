@@ -44,6 +44,47 @@ impl Load {
     }
 }
 
+/// A two-state link, good at first. A frame is lost while it is bad. After each frame a state is left if the top 16 bits of the listener's
+/// next draw are below its number.
+#[derive(Clone, Copy, PartialEq, Eq, Debug)]
+pub struct Link {
+    /// The number of the good state.
+    pub leave_good: u16,
+    /// The number of the bad one.
+    pub leave_bad: u16,
+}
+
+/// What became of the frames that a listener was sent; the three add up to all of them.
+#[derive(Clone, Copy, PartialEq, Eq, Debug)]
+pub struct Heard {
+    /// The received ones.
+    pub received: u32,
+    /// The lost ones that a post conceals.
+    pub concealed: u32,
+    /// The lost ones that its squelch silences.
+    pub squelched: u32,
+}
+
+impl Load {
+    /// Sixteen listeners, each with a seed, follow the first frames of the load with its losses replaced by those of a link. No frame is decoded:
+    /// 2,147,483,647 of them take minutes. Refused by 1, 2, 12 for more frames, 14.
+    ///
+    /// ```
+    /// use post::{Heard, Link, Load, Shape};
+    ///
+    /// let load = Load { shape: Shape { rate: 8, subframes: 2 }, seed: 0 };
+    /// let heard = load.trial(50, 3_000, Link { leave_good: 655, leave_bad: 655 }, &core::array::from_fn(|i| i as i32))?;
+    /// assert_eq!(heard[0], Heard { received: 1_452, concealed: 724, squelched: 824 });
+    /// # Ok::<(), post::Refusal>(())
+    /// ```
+    pub fn trial(&self, squelch: i32, frames: u32, link: Link, seeds: &[i32; ffi::LISTENERS]) -> Result<[Heard; ffi::LISTENERS], Refusal> {
+        let (Shape { rate, subframes }, Link { leave_good, leave_bad }) = (self.shape, link);
+        let mut counts = [0; ffi::COUNTS];
+        answered(ffi::trial(rate, subframes, self.seed, squelch, frames, leave_good, leave_bad, seeds, &mut counts))?;
+        Ok(core::array::from_fn(|i| Heard { received: counts[i], concealed: counts[16 + i], squelched: counts[32 + i] }))
+    }
+}
+
 /// The generator's value after a count of draws.
 pub fn leap(seed: i32, draws: u64) -> i32 {
     ffi::load_leap(seed, draws)

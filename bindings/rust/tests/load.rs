@@ -1,6 +1,6 @@
 //! The load over the linked library.
 
-use post::{Load, Post, Refusal, Shape, ffi, leap, undoing};
+use post::{Heard, Link, Load, Post, Refusal, Settings, Shape, ffi, leap, undoing};
 
 const NARROW: Shape = Shape { rate: 8, subframes: 2 };
 
@@ -46,7 +46,8 @@ fn refused() {
 fn a_load_is_played() {
     for (rate, subframes) in [(8, 2), (12, 4), (16, 2)] {
         let load = Load { shape: Shape { rate, subframes }, seed: -5 };
-        let mut post = Post::set_up(load.shape).unwrap();
+        let unsquelched = Settings { squelch: 0, ..Settings::default() };
+        let mut post = Post::set_up_with(load.shape, unsquelched).unwrap();
         let mut output = vec![0; (5 * rate * subframes) as usize];
         for number in 1_000_000..1_000_200 {
             let mut drawn = load.frame(number).unwrap();
@@ -58,4 +59,33 @@ fn a_load_is_played() {
             }
         }
     }
+}
+
+const SEEDS: [i32; 16] = [0, 1, 2, 3, 4, 5, 6, 7, 8, 9, 10, 11, 12, 13, 14, 15];
+
+#[test]
+fn a_trial() {
+    let load = Load { shape: NARROW, seed: 7 };
+    let heard = load.trial(3, 10, Link { leave_good: 40_000, leave_bad: 20_000 }, &SEEDS).unwrap();
+    let first =
+        [(3, 5, 2), (3, 5, 2), (5, 5, 0), (4, 5, 1)].map(|(received, concealed, squelched)| Heard { received, concealed, squelched });
+    assert_eq!(heard[..4], first);
+    for (squelch, concealed, squelched) in [(0, 99, 0), (1, 0, 99), (5, 4, 95)] {
+        let heard = load.trial(squelch, 100, Link { leave_good: 65_535, leave_bad: 0 }, &SEEDS).unwrap();
+        assert_eq!(heard[0], Heard { received: 1, concealed, squelched });
+    }
+    let never = load.trial(50, 100, Link { leave_good: 0, leave_bad: 65_535 }, &SEEDS).unwrap();
+    assert_eq!(never, [Heard { received: 100, concealed: 0, squelched: 0 }; 16]);
+}
+
+#[test]
+fn a_trial_is_refused() {
+    let (load, link) = (Load { shape: NARROW, seed: 7 }, Link { leave_good: 1, leave_bad: 1 });
+    let none = Load { shape: Shape { rate: 9, subframes: 3 }, ..load };
+    assert_eq!(none.trial(-1, u32::MAX, link, &SEEDS), Err(Refusal::Rate));
+    assert_eq!(Load { shape: Shape { subframes: 3, ..NARROW }, ..load }.trial(-1, u32::MAX, link, &SEEDS), Err(Refusal::Size));
+    assert_eq!(load.trial(-1, 2_147_483_648, link, &SEEDS), Err(Refusal::Length));
+    assert_eq!([-1, 10_001].map(|squelch| load.trial(squelch, 0, link, &SEEDS)), [Err(Refusal::Squelch); 2]);
+    assert_eq!(ffi::trial(8, 2, 0, 0, 0, 0, 0, &[0; 15], &mut [0; 48]), -1);
+    assert_eq!(ffi::trial(8, 2, 0, 0, 0, 0, 0, &[0; 16], &mut [0; 47]), -1);
 }

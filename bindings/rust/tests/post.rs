@@ -102,6 +102,7 @@ fn a_change_of_shape() {
 #[test]
 fn a_squelch() {
     assert_eq!(Post::set_up(NARROW), Post::set_up_with(NARROW, Settings::default()));
+    assert_eq!(Settings::default(), squelched(50));
     let squelches = [-1, 0, 1, 50, 10_000, 10_001].map(|squelch| Post::set_up_with(NARROW, squelched(squelch)));
     let held = squelches.map(|post| post.map(|post| post.parts().0[SQUELCH]));
     assert_eq!(held, [Err(Refusal::Squelch), Ok(0), Ok(1), Ok(50), Ok(10_000), Err(Refusal::Squelch)]);

@@ -7,7 +7,8 @@ use Rattle.macros.specs.Quotient.{inverse32_varq}
 use Rattle.stability.specs.Stability.{Stability, answer_number, answer_value, tested}
 use Rattle.shape.specs.Shape.{frame_length}
 use Rattle.decoder.specs.State.{shape_of}
-use Rattle.decoder.specs.SetUp.{silk_default, set_up}
+use Rattle.edition.specs.Edition.{newer}
+use Rattle.decoder.specs.SetUp.{silk_default, set_up_with}
 use Rattle.decoder.specs.With.{with_plc}
 use Rattle.decoder.specs.Outcome.{Outcome}
 use Rattle.decoder.specs.declared.SilkDecoderState.{SilkDecoderState}
@@ -20,9 +21,9 @@ use Rattle.plc.specs.Update.{middle, plc_update}
 use Rattle.plc.specs.Conceal.{plc_conceal}
 use Rattle.cng.specs.Noise.{exc_mask, comfort_noise}
 
--- the state after set-up, which takes every shape of the bench
+-- the state after a set-up with squelch 0, as the Rust has none; it takes every shape of the bench
 abbrev start : ℤ → ℤ → SilkDecoderState
-start khz nb = result_unwrap_or (set_up khz nb) silk_default
+start khz nb = result_unwrap_or (set_up_with khz nb (record { squelch = pos 0; edition = newer })) silk_default
 
 -- a description with a sum of taps in each subframe
 abbrev description : ℤ → SilkDecoderControl

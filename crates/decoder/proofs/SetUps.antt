@@ -162,7 +162,7 @@ default_typed =
       loss_cnt = zero_fits w32;
       prev_signal_type = zero_fits w32;
       s_plc = plc_typed;
-      settings = record { squelch = zero_fits w32; edition = abs-fits (pos 8251) (lit< tt) };
+      settings = record { squelch = abs-fits (pos 50) (lit< tt); edition = abs-fits (pos 8251) (lit< tt) };
     }
 
 -- ---- at a rate and a count

@@ -13,9 +13,9 @@ is_squelch q = within (pos 0) (pos 10000) q
 unfoldable pub settings_fit : Settings → Bool
 settings_fit v = is_squelch v.squelch && is_edition v.edition
 
--- those of a set-up that names none
+-- those of a set-up that names none: squelch after 50 losses (Note 13)
 unfoldable pub default_settings : Settings
-default_settings = record { squelch = pos 0; edition = newer }
+default_settings = record { squelch = pos 50; edition = newer }
 
 -- a loss now makes the count Q or more; Q of 0 means never
 unfoldable pub squelched : SilkDecoderState → Bool

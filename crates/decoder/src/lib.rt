@@ -467,7 +467,7 @@ pub fn default_settings() -> Settings
     ensures { result ≡ default_settings }
 {
     Settings {
-        squelch: 0,
+        squelch: 50,
         edition: NEWER,
     }
 }

@@ -1,4 +1,4 @@
-// The functions of a load that a Rust or C program links. Each is one call of crate `post_load`, with its contract.
+// The functions of a load and of its trial that a Rust or C program links. Each is one call of crate `post_load` or `post_trial`, with its contract.
 // Only a static library exports, and no crate can depend on one, so that each stands again.
 #![tactic(auto)]
 
@@ -6,6 +6,7 @@ ghost use Rattle.std.specs.Prelude.{◌≡◌};
 ghost use Rattle.generator.specs.Draws.{drawn};
 ghost use Rattle.generator.specs.Leaps.{undoing};
 ghost use Rattle.post_load.specs.Calls.{called, load_frame_call};
+ghost use Rattle.post_trial.specs.Call.{trial_call};
 
 // C interface: each number and each slice is a parameter.
 #[unsafe(no_mangle)]
@@ -38,4 +39,25 @@ pub extern "C" fn post_load_undoing(draws: u64) -> u64
     ensures { result ≡ undoing draws }
 {
     post_load::post_load_undoing(draws)
+}
+
+// C interface: each number and each slice is a parameter.
+#[unsafe(no_mangle)]
+pub extern "C" fn post_trial(
+    rate: i32,
+    subframes: i32,
+    seed: i32,
+    squelch: i32,
+    frames: u32,
+    leave_good: u16,
+    leave_bad: u16,
+    seeds: &[i32],
+    counts: &mut [u32],
+) -> i32
+    ensures { record { answer = result; counts = counts.new }
+        ≡ trial_call rate subframes seed squelch frames leave_good leave_bad seeds.now counts.old }
+{
+    post_trial::post_trial(
+        rate, subframes, seed, squelch, frames, leave_good, leave_bad, seeds, counts,
+    )
 }

@@ -1,7 +1,8 @@
 // Runs the judges over the cases of standard input: each end of each range of document 01 from inside and from outside.
 #![tactic(auto)]
 
-use decoder::{Frame, Params, Signal, SilkDecoderControl, SilkDecoderState, set_up, set_up_with};
+use decoder::{Frame, Params, Settings, Signal, SilkDecoderControl, SilkDecoderState, set_up_with};
+use edition::NEWER;
 use input::read_full;
 use line::{Line, line_of};
 use refusal::Refusal;
@@ -49,6 +50,15 @@ struct Case {
     pulses: usize,
     output: usize,
     length: usize,
+}
+
+// A post of the newer edition that is never squelched, as the Rust is.
+fn set_up(khz: i32, nb_subfr: i32) -> Result<SilkDecoderState, Refusal> {
+    let settings = Settings {
+        squelch: 0,
+        edition: NEWER,
+    };
+    set_up_with(khz, nb_subfr, settings)
 }
 
 // A set-up state whose concealment and noise have run at its rate.
