@@ -299,7 +299,7 @@ fn comfort_noise(s: SilkDecoderState, gains: &[i32; 4], frame: &mut [i16]) -> Si
     SilkDecoderState { s_cng, ..s }
 }
 
-// Comfort noise as a call on the first n samples of a buffer: refused, it changes nothing.
+// Comfort noise as a call on the first n samples of a buffer: refused, it changes nothing. By value, as document 01 has it.
 pub fn silk_cng(
     s: SilkDecoderState,
     c: SilkDecoderControl,

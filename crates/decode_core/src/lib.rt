@@ -69,7 +69,7 @@ struct Subframe {
     ghost place: { k < 4 },
 }
 
-// The long-term state (Q15): its first idx places are in use.
+// The long-term state (Q15): its first idx places are in use, of the most that a frame fills, since there is no heap.
 #[derive(Drop)]
 struct Past {
     q15: [i32; 640],
@@ -429,14 +429,33 @@ pub fn setting_of(s: &SilkDecoderState, q: Params) -> Setting
     }
 }
 
-// The excitation of a frame in front of what is held.
-fn excited(exc: &mut [i32; 320], f: Setting, q: Params, pulses: &[i16])
-    requires { (f.subfr_length * f.nb_subfr ≤ 320) × (f.subfr_length * f.nb_subfr ≤ length pulses.now) }
-    ensures { exc.new ≡ excitation (offset_q14 f.voiced q.quant_offset_type) pulses.now q.seed (f.subfr_length * f.nb_subfr) ++ drop (f.subfr_length * f.nb_subfr) exc.old }
+// A frame by any setting: of the buffers that are lent, exc holds the excitation, memory the short-term memory and out_buf the history, each before it and after.
+// They are lent one by one, since a caller plays on parts of its own.
+pub fn decode_by(
+    f: Setting,
+    q: Params,
+    b: Carried,
+    rows: [[i16; 16]; 2],
+    pulses: &[i16],
+    exc: &mut [i32],
+    memory: &mut [i32; 16],
+    out_buf: &mut [i16; 480],
+    xq: &mut [i16],
+) -> Carried
+    requires { Framed f b.control f.nb_subfr × (f.subfr_length * f.nb_subfr ≤ length pulses.now) × (f.subfr_length * f.nb_subfr ≤ length exc.old) × (f.subfr_length * f.nb_subfr ≤ length xq.old) }
+    ensures { (exc.new ≡ excitation (offset_q14 f.voiced q.quant_offset_type) pulses.now q.seed (f.subfr_length * f.nb_subfr) ++ drop (f.subfr_length * f.nb_subfr) exc.old)
+        × Left (subframes f rows (excitation (offset_q14 f.voiced q.quant_offset_type) pulses.now q.seed (f.subfr_length * f.nb_subfr)) (begin f b memory.old out_buf.old) f.nb_subfr) result memory.new out_buf.new xq.new (drop (f.subfr_length * f.nb_subfr) xq.old) }
 {
     let n = f.subfr_length * f.nb_subfr;
     let offset = offset_q14(f.voiced, q.quant_offset_type);
     excite(&mut exc[..n], pulses, offset, i32::from(q.seed));
+    let source = Source {
+        setting: f,
+        order: Order::from_size(f.lpc_order),
+        rows,
+        exc: &exc[..n],
+    };
+    source.synthesise(b, memory, out_buf, xq)
 }
 
 // A received frame that no row refuses, on a state and a description that are lent: its buffers are played where they lie.
@@ -447,24 +466,26 @@ pub fn decode_core(a: &mut Answer, q: Params, rows: [[i16; 16]; 2], pulses: &[i1
         × (xq.new ≡ (decode_core (shape_of a.old.state) a.old.state q a.old.control rows pulses.now).samples ++ drop (frame_length (shape_of a.old.state)) xq.old) }
 {
     let f = setting_of(&a.state, q);
-    let n = f.subfr_length * f.nb_subfr;
-    excited(&mut a.state.exc_q14, f, q, pulses);
-    let source = Source {
-        setting: f,
-        order: Order::from_size(f.lpc_order),
-        rows,
-        exc: &a.state.exc_q14[..n],
-    };
     let b = Carried {
         control: a.control,
         gain: a.state.prev_gain_q16,
     };
-    let t = source.synthesise(b, &mut a.state.s_lpc_q14_buf, &mut a.state.out_buf, xq);
+    let t = decode_by(
+        f,
+        q,
+        b,
+        rows,
+        pulses,
+        &mut a.state.exc_q14,
+        &mut a.state.s_lpc_q14_buf,
+        &mut a.state.out_buf,
+        xq,
+    );
     a.control = t.control;
     a.state.prev_gain_q16 = t.gain;
 }
 
-// By document 01 coefficient rows and pulses stand beside a frame's numbers and its description.
+// By document 01 the state and the description go by value, and coefficient rows and pulses stand beside them.
 pub fn silk_decode_core(
     s: SilkDecoderState,
     q: Params,

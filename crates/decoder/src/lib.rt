@@ -106,6 +106,7 @@ pub struct Params {
     pub seed: i8,
 }
 
+// Document 01 names this form.
 #[derive(Clone, Copy, Debug, PartialEq, Eq)]
 pub enum Frame {
     Received(Params),
@@ -308,6 +309,7 @@ impl From<Signal> for i32 {
     }
 }
 
+// By document 01's match: 0, 1 and 2 are the three types.
 impl From<i8> for Signal {
     ghost from_gives = { λ n s. s ≡ signal_of n };
 

@@ -12,11 +12,13 @@ pub fn squelch_silences()
 {}
 
 // A received frame is the same under both editions.
+// Its law stands in an answer: the search doesn't take it by `using`.
 pub fn received_alike()
     ensures { ReceivedAlike }
 {}
 
 // So is a lost one in which no step of the stability test leaves 32 bits.
+// Its law stands in an answer: the search doesn't take it by `using`.
 pub fn lost_alike()
     ensures { LostAlike }
 {}

@@ -142,7 +142,7 @@ fn glue_frames(s: SilkDecoderState, frame: &mut [i16]) -> SilkDecoderState
     SilkDecoderState { s_plc, ..s }
 }
 
-// Gluing as a call on the first n samples of a buffer: refused, it changes nothing.
+// Gluing as a call on the first n samples of a buffer: refused, it changes nothing. By value, as document 01 has it.
 pub fn silk_plc_glue_frames(
     s: SilkDecoderState,
     frame: &mut [i16],

@@ -147,6 +147,15 @@ pub fn put_lags(c: &SilkDecoderControl, frame: &mut [i32])
     copy_at(frame, 7, &c.pitch_l);
 }
 
+// The taps, likewise.
+#[tactic(auto, unfolding(crate::specs::Frame::with_taps))]
+pub fn put_taps(c: &SilkDecoderControl, coefs: &mut [i16])
+    requires { COEFS ≤ length coefs.old }
+    ensures { coefs.new ≡ with_taps coefs.old c.now }
+{
+    copy_at(coefs, 0, &c.ltp_coef_q14);
+}
+
 // A frame's numbers and coefficients, to be read and written.
 #[derive(Drop)]
 pub struct FrameSlices<'a> {
@@ -174,12 +183,11 @@ impl FrameSlices<'_> {
     }
 
     // The lags and the taps of a new description stored.
-    #[tactic(auto, unfolding(crate::specs::Frame::with_taps))]
     pub fn put_lags_and_taps(&mut self, c: &SilkDecoderControl)
         ensures stored { (self.new.numbers.now ≡ with_lags self.old.numbers.now c.now) × (self.new.coefs.now ≡ with_taps self.old.coefs.now c.now) }
         ensures same_reference { SameFrame self.old self.new }
     {
         put_lags(c, self.numbers);
-        copy_at(self.coefs, 0, &c.ltp_coef_q14);
+        put_taps(c, self.coefs);
     }
 }

@@ -1,4 +1,4 @@
-// How a state and a frame lie in the slices that a program lends.
+// How a state and a frame lie in the slices that a program lends. Places stand as numbers, as in the definitions.
 // Inner: every function but put_is_read.
 #![tactic(auto)]
 

@@ -7,7 +7,7 @@ use lib.Dec.{eqb}
 use mathlib.Core.List.{List, [], ◌++◌, append_assoc, append-nil}
 use native.Mathlib.Omega.{arith}
 use native.Mathlib.Numerals.{add-one}
-use lib.ListN.{length, get_or, take, drop, length-append, length-drop, take-append-drop, drop_of_length-le}
+use lib.ListN.{length, get_or, take, drop, length-append, take-append-drop, drop_of_length-le}
 use lib.Seq.{drop-cons, drop-drop, take_at, take-append-add, drop-append-add, length-take-le}
 use Rattle.le.specs.Bytes.{number_of, unsigned_at, with_bytes}
 

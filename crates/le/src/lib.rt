@@ -130,16 +130,24 @@ impl Word for i32 {
     ghost sized = { λ _. refl };
 }
 
-// N numbers, one behind the other, from place at on. By a loop: the closure of `array::from_fn` would state the room again, and no law of the library makes a `map` of what it promises.
+// Numbers one behind the other, from place at on, as many as to has room for.
 #[tactic(auto, using(crate::proofs::Packing::word_room))]
+pub fn read_words<T: Word>(b: &[u8], at: usize, to: &mut [T])
+    requires { at + T.SIZE * length to.old ≤ length b.now }
+    ensures { to.new ≡ words_by T.word_at T.SIZE b.now at (length to.old) }
+{
+    for (i, x) in to.iter_mut().enumerate() {
+        *x = T::at(b, at + T::SIZE * i);
+    }
+}
+
+// N of them. Not by `array::from_fn`: its closure would state the room again, and no law of the library makes a `map` of what it promises.
 pub fn words_at<T: Word, const N: usize>(b: &[u8], at: usize) -> [T; N]
     requires { at + T.SIZE * N ≤ length b.now }
     ensures { result ≡ words_by T.word_at T.SIZE b.now at N }
 {
     let mut words = [T::default(); N];
-    for (i, x) in words.iter_mut().enumerate() {
-        *x = T::at(b, at + T::SIZE * i);
-    }
+    read_words(b, at, &mut words);
     words
 }
 

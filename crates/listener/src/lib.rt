@@ -2,7 +2,7 @@
 // Inner: every function.
 #![tactic(auto)]
 
-ghost use Rattle.std.specs.Prelude.{◌≡◌, cond, suc, ◌+◌, ◌<◌};
+ghost use Rattle.std.specs.Prelude.{◌≡◌, cond, suc, ◌+◌, ◌≤◌, ◌<◌, length, take};
 ghost use Rattle.generator.specs.Draws.{unsigned};
 ghost use Rattle.listener.specs.Link.{leaving, turned};
 ghost use Rattle.listener.specs.Heard.{silent, counts_of, rows_of};
@@ -107,4 +107,13 @@ pub fn sixteen(seeds: [i32; 16], squelch: u32, k: Link, frames: u32) -> [Counts;
             ensures { result ≡ counts_of squelch k x frames }
         { followed(x, squelch, k, frames) },
     )
+}
+
+// Sixteen seeds that are lent.
+pub fn seeds_of(lent: &[i32]) -> [i32; 16]
+    requires { 16 ≤ length lent.now }
+    ensures { result ≡ take 16 lent.now }
+{
+    let seeds: &[i32; 16] = lent[..16].try_into().unwrap();
+    *seeds
 }

@@ -3,7 +3,7 @@
 
 use input::read_full;
 use line::{Line, line_of};
-use listener::{Counts, Link};
+use listener::{Counts, Link, seeds_of};
 use std::io;
 use trial::run;
 use word::bits32;
@@ -41,14 +41,9 @@ fn write_table(rt: &impl Print, rows: &[Counts; 16], seeds: &[i32; 16]) -> io::R
     write_sums(rt, rows)
 }
 
-// The seeds behind the seven numbers of a trial. post_trial takes its seeds so of a slice: two lines, which a function of a third crate would not shorten.
-fn seeds_of(row: &[i32; 64]) -> [i32; 16] {
-    let seeds: &[i32; 16] = row[7..23].try_into().unwrap();
-    *seeds
-}
-
 fn try_row(rt: &impl Print, row: &[i32; 64], link: Link) -> io::Result<()> {
-    let seeds = seeds_of(row);
+    // Behind the seven numbers of a trial.
+    let seeds = seeds_of(&row[7..23]);
     match run(row[0], row[1], row[2], row[3], bits32(row[4]), link, seeds) {
         Ok(rows) => write_table(rt, &rows, &seeds),
         Err(refusal) => {

@@ -57,6 +57,7 @@ pub fn record_load(
 }
 
 // Any 59 frames of a load in a row, or fewer, are recorded, and read back as they were drawn.
+// Its law stands in an answer: the search doesn't take it by `using`.
 pub fn load_recorded()
     ensures { LoadRecorded }
 {}

@@ -4,10 +4,9 @@ use mathlib.Core.Path.{◌≡◌, refl, ◌∙◌}
 use mathlib.Core.Bool.{Bool, true, false, cond}
 use mathlib.Core.List.{List}
 use lib.IntN.{ℤ, pos, nat_abs}
-use lib.ListN.{length, get_or, length-map}
+use lib.ListN.{length, length-map}
 use lib.Signed.{lt_z}
 use mir.Syntax.{w16}
-use mir.Val.{SFits}
 use Rattle.word.specs.Int.{eq_ℤ}
 use Rattle.word.proofs.Fits.{AllFit, map-fits}
 use Rattle.word.proofs.Order.{sat16-fits}

@@ -11,7 +11,7 @@ ghost use Rattle.word.specs.Int.{sat16};
 ghost use Rattle.word.specs.Tabulate.{tabulate};
 ghost use Rattle.edition.specs.Edition.{newer};
 ghost use Rattle.shape.specs.Order.{size};
-ghost use Rattle.nlsf.specs.Table.{lsf_cos};
+ghost use Rattle.nlsf.specs.Table.{lsf_cos_half, lsf_cos};
 ghost use Rattle.nlsf.specs.Values.{LsfCosKept};
 ghost use Rattle.nlsf.specs.Lines.{negative_line, lsf_cosine, ordering, cosines, times_factor, poly, even_term, odd_term, lpc_coefficient, coefficients_of};
 ghost use Rattle.nlsf.specs.Expand.{next_factor, bwexpander32};
@@ -31,6 +31,14 @@ use word::{abs32, add32, low16, map_into, mul32, neg32, sat16, shl32, sub32, wid
 pub struct Largest {
     pub size: i32,
     pub place: usize,
+}
+
+// The table up to a quarter turn.
+#[tactic(auto, unfolding(crate::specs::Table::lsf_cos_half))]
+pub fn lsf_cos_half() -> [i16; 65]
+    ensures { result ≡ lsf_cos_half }
+{
+    SILK_LSF_COS_TAB_FIX_Q12
 }
 
 // Entry i of the table, above place 64 by its rule.

@@ -133,6 +133,7 @@ pub fn play(bytes: &[u8], output: &mut [i16]) -> Result<Played, Refusal>
 }
 
 // Every frame of an accepted recording is played.
+// Its law stands in an answer: the search doesn't take it by `using`.
 pub fn recording_plays()
     ensures { RecordingPlays }
 {}

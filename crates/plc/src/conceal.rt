@@ -479,7 +479,7 @@ pub fn plc_conceal(a: &mut Answer, xq: &mut [i16])
     leave(a, r);
 }
 
-// A lost frame as a call: refused, it changes nothing.
+// A lost frame as a call: refused, it changes nothing. By value, as document 01 has it.
 #[tactic(auto, using(refusal::proofs::Clear::at_err), unfolding(crate::specs::Answer::plc_lost_refusal, crate::specs::Answer::plc_lost, crate::specs::Answer::plc_lost_output))]
 pub fn silk_plc_lost(
     s: SilkDecoderState,

@@ -268,7 +268,7 @@ fn plc_update(
     }
 }
 
-// A received frame as a call: refused, it changes nothing.
+// A received frame as a call: refused, it changes nothing. By value, as document 01 has it.
 #[tactic(auto, using(refusal::proofs::Clear::answered_err, refusal::proofs::Clear::answered_ok), unfolding(crate::specs::Answer::plc_received))]
 pub fn silk_plc_received(
     s: SilkDecoderState,

@@ -13,7 +13,7 @@ use Rattle.refusal.proofs.Clear.{clear}
 use Rattle.refusal.specs.declared.Refusal.{Refusal}
 use Rattle.refusal.specs.declared.Refusal.TheVariants.{Record}
 use Rattle.layout.specs.Frame.{FRAME, COEFS}
-use Rattle.post_recording.specs.Sizes.{short_numbers, short_frame, sized}
+use Rattle.post_recording.specs.Sizes.{short_numbers, short_with_pulses, sized}
 
 pub long_numbers : (frame coefs : ℕ) → short_numbers frame coefs ≡ false → (FRAME ≤ frame) × (COEFS ≤ coefs)
 unfolding short_numbers
@@ -21,8 +21,8 @@ long_numbers frame coefs e =
     let b = neither (ltb frame FRAME) (ltb coefs COEFS) e in
     (ltb-false frame FRAME b.0, ltb-false coefs COEFS b.1)
 
-pub long : (frame coefs pulses : ℕ) → short_frame frame coefs pulses ≡ false → (FRAME ≤ frame) × (COEFS ≤ coefs) × (320 ≤ pulses)
-unfolding short_frame
+pub long : (frame coefs pulses : ℕ) → short_with_pulses frame coefs pulses ≡ false → (FRAME ≤ frame) × (COEFS ≤ coefs) × (320 ≤ pulses)
+unfolding short_with_pulses
 long frame coefs pulses e =
     let b = neither (short_numbers frame coefs) (ltb pulses 320) e in
     let l = long_numbers frame coefs b.0 in

@@ -12,7 +12,7 @@ use Rattle.recording.specs.Frames.{rate_in, count_in, frames_in}
 use Rattle.recording.specs.Reading.{read_refusal}
 use Rattle.recording.specs.declared.Recording.{Recording}
 use Rattle.playback.specs.Playback.{played_samples, play_refusal}
-use Rattle.post_recording.specs.Sizes.{HEAD, short_frame, sized}
+use Rattle.post_recording.specs.Sizes.{HEAD, short_with_pulses, sized}
 
 -- the answer, and the head
 pub record Read : Type 0 where
@@ -74,7 +74,7 @@ number_refusal b number =
 
 -- 21 for a short slice, else the judgement of the recording and the number
 unfoldable pub frame_judged : List ℕ → ℕ → List ℤ → List ℤ → List ℤ → Judged
-frame_judged b number frame coefs pulses = sized (short_frame (length frame) (length coefs) (length pulses)) (number_refusal b number)
+frame_judged b number frame coefs pulses = sized (short_with_pulses (length frame) (length coefs) (length pulses)) (number_refusal b number)
 
 -- the frame of a number, at the front of the slices
 unfoldable pub frame_call : List ℕ → ℕ → List ℤ → List ℤ → List ℤ → Framed

@@ -12,8 +12,8 @@ HEAD = 62
 unfoldable pub short_numbers : ℕ → ℕ → Bool
 short_numbers frame coefs = ltb frame FRAME || ltb coefs COEFS
 
-unfoldable pub short_frame : ℕ → ℕ → ℕ → Bool
-short_frame frame coefs pulses = short_numbers frame coefs || ltb pulses 320
+unfoldable pub short_with_pulses : ℕ → ℕ → ℕ → Bool
+short_with_pulses frame coefs pulses = short_numbers frame coefs || ltb pulses 320
 
 -- 21 where a slice is too short, else the judgement of what the slices hold
 unfoldable pub sized : Bool → Judged → Judged

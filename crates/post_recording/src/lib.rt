@@ -9,7 +9,7 @@ ghost use Rattle.record.specs.Recorded.{recorded_in};
 ghost use Rattle.recording.specs.Frames.{rate_in, count_in};
 ghost use Rattle.playback.specs.Playback.{played_samples};
 ghost use Rattle.recorder.specs.Writing.{appended};
-ghost use Rattle.post_recording.specs.Sizes.{HEAD, short_numbers, short_frame};
+ghost use Rattle.post_recording.specs.Sizes.{HEAD, short_numbers, short_with_pulses};
 ghost use Rattle.post_recording.specs.Reading.{places, head_numbers, head_of, read_judged, read_call, frame_of, coefs_of, pulses_of, frame_at, frame_judged, frame_call, play_judged, play_call};
 ghost use Rattle.post_recording.specs.Writing.{begin_call, lent, append_judged, append_call};
 
@@ -72,9 +72,9 @@ fn short_numbers(frame: usize, coefs: usize) -> bool
 
 // The same, or too few places for its pulses. post_load's `short_load` is this test too: one for both would be a public function of layout, with a definition
 // there, for one line.
-#[tactic(auto, unfolding(crate::specs::Sizes::short_frame))]
-fn short_frame(frame: usize, coefs: usize, pulses: usize) -> bool
-    ensures { result ≡ short_frame frame coefs pulses }
+#[tactic(auto, unfolding(crate::specs::Sizes::short_with_pulses))]
+fn short_with_pulses(frame: usize, coefs: usize, pulses: usize) -> bool
+    ensures { result ≡ short_with_pulses frame coefs pulses }
 {
     short_numbers(frame, coefs) || pulses < 320
 }
@@ -89,7 +89,7 @@ fn put_record(
     coefs: &mut [i16],
     pulses: &mut [i16],
 )
-    requires { short_frame (length frame.old) (length coefs.old) (length pulses.old) ≡ false }
+    requires { short_with_pulses (length frame.old) (length coefs.old) (length pulses.old) ≡ false }
     ensures { (frame.new ≡ put_at frame.old 0 (frame_of rate subframes (recorded_in r.now.bytes.now)))
         × (coefs.new ≡ put_at coefs.old 0 (coefs_of (recorded_in r.now.bytes.now)))
         × (pulses.new ≡ put_at pulses.old 0 (pulses_of (recorded_in r.now.bytes.now))) }
@@ -124,7 +124,7 @@ fn frame_into(
         × (pulses.new ≡ if_accepted result (put_at pulses.old 0 (pulses_of (frame_at bytes.now number))) pulses.old) }
 {
     refuse_if(
-        short_frame(frame.len(), coefs.len(), pulses.len()),
+        short_with_pulses(frame.len(), coefs.len(), pulses.len()),
         Refusal::Record,
     )?;
     let r = read(bytes)?;

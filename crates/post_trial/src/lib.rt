@@ -2,10 +2,10 @@
 // Its contract is one equation: the answer and the slice at exit are those of the call's definition.
 #![tactic(auto)]
 
-ghost use Rattle.std.specs.Prelude.{◌≡◌, ◌≤◌, length, take};
+ghost use Rattle.std.specs.Prelude.{◌≡◌, ◌≤◌, length};
 ghost use Rattle.post_trial.specs.Call.{short_trial, put_counts, trial_call};
 
-use listener::{Counts, Link};
+use listener::{Counts, Link, seeds_of};
 use refusal::code;
 use sigproc::copy_at;
 use trial::run;
@@ -16,14 +16,6 @@ fn short_trial(seeds: usize, counts: usize) -> bool
     ensures { result ≡ short_trial seeds counts }
 {
     seeds < 16 || counts < 48
-}
-
-fn seeds_of(seeds: &[i32]) -> [i32; 16]
-    requires { 16 ≤ length seeds.now }
-    ensures { result ≡ take 16 seeds.now }
-{
-    let seeds: &[i32; 16] = seeds[..16].try_into().unwrap();
-    *seeds
 }
 
 // The frames received, of each listener, then those concealed, then those squelched.

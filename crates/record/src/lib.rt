@@ -138,6 +138,7 @@ pub fn put_received(
 }
 
 // What is written is read, a signal type being its number, and what is read is written.
+// Its law stands in an answer: the search doesn't take it by `using`.
 pub fn both_ways()
     ensures { WrittenIsRead × ReadIsWritten }
 {}

@@ -4,6 +4,7 @@
 ghost use Rattle.round_trip.specs.Claims.{InOrder, WrittenIsRead, WriterTakes, ReadIsWritten};
 
 // What a writer writes in order reads back as the same frames, and it takes every list of frames that a recording can hold.
+// Its law stands in an answer: the search doesn't take it by `using`.
 pub fn written_is_read()
     ensures { InOrder × WrittenIsRead × WriterTakes }
 {}

@@ -27,6 +27,7 @@ pub fn single_loss(bytes: &[u8], limit: i32) -> Result<Option<usize>, Refusal>
 }
 
 // The answer names the smallest such frame, and none comes exactly if no single loss does it.
+// Its law stands in an answer: the search doesn't take it by `using`.
 pub fn smallest_loss()
     ensures { AnswerMeans × NoneExactly }
 {}

@@ -66,6 +66,7 @@ fn reflection(a: i32) -> i32
     neg32(shl32(a, 7))
 }
 
+// The Rust's names of two quantities.
 #[tactic(auto, using(macros::proofs::Kept::words), unfolding(crate::specs::Stability::rc_mult1))]
 fn rc_mult1(rc: i32) -> i32
     ensures { result ≡ rc_mult1 rc }

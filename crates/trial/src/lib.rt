@@ -38,6 +38,7 @@ pub fn run(
 }
 
 // The three counts of each listener add up to the frames sent, and every frame is played.
+// Its law stands in an answer: the search doesn't take it by `using`.
 pub fn adds_up()
     ensures { AddsUp × AllPlayed }
 {}

@@ -4,14 +4,14 @@ use mathlib.Core.Path.{◌≡◌, refl, sym, ap, ◌∙◌}
 use mathlib.Core.Bool.{Bool, true, false, cond}
 use native.Mathlib.Omega.{arith}
 use native.Mathlib.Nat.{le_refl, not-suc-le-zero}
-use borrow.Author.Tests.{ltb-true, ltb-false, le-ltb, eq-eqb, eqb-true}
+use borrow.Author.Tests.{ltb-true, ltb-false, eq-eqb, eqb-true}
 use lib.IntN.{ℤ, pos, negsuc, nat_abs, neg_ℤ}
 use lib.Signed.{mag, lt_z, le_z}
 use mir.Syntax.{Width, w16, w32}
 use mir.Val.{to_z, of_z, SFits, hbits}
 use mir.ValLaws.{pow-bits}
 use mir.Facts.{to_z-of_z}
-use Rattle.word.specs.Int.{eq_ℤ, min_ℤ, max_ℤ, clamp, sat16, sat32}
+use Rattle.word.specs.Int.{eq_ℤ, clamp, sat16, sat32}
 
 -- ---- a test of two words is one of the numbers that they hold
 pub lt_read : {w : Width} {a b : ℤ} {t : Bool} → SFits w a → SFits w b → lt_z (to_z w (of_z w a)) (to_z w (of_z w b)) ≡ t → lt_z a b ≡ t

@@ -6,11 +6,11 @@ use Prim.Native.Nat.{ℕ, zero, suc, ◌+◌, ◌*◌, ◌/◌, ◌<◌, ◌≤�
 use mathlib.Core.Path.{◌≡◌, refl, ap}
 use mathlib.Core.Bool.{Bool, true, false}
 use native.Mathlib.Omega.{arith}
-use native.Mathlib.Nat.{mod-lt, mod-add-div, mul-suc, le_trans, le-div_iff_mul-le, div-mul-le_self}
+use native.Mathlib.Nat.{mod-lt, mod-add-div, mul-suc}
 use borrow.Author.Tests.{ltb-true, ltb-false}
-use lib.Dec.{T, ltb, leb→le, le→leb, ltb→lt, lt→ltb}
+use lib.Dec.{T, ltb, leb→le, le→leb}
 use lib.IntN.{ℤ, pos, negsuc, neg_ℤ, sub_ℕ, ◌+ℤ◌, ◌-ℤ◌, ◌*ℤ◌}
-use lib.Signed.{mag, le_z, lt_z, ◌≤ℤ◌, ◌<ℤ◌}
+use lib.Signed.{mag, le_z, ◌≤ℤ◌}
 use Rattle.word.specs.Int.{mod_ℤ, floor_div}
 use Rattle.word.proofs.Mod.{mod_ℤ_lt}
 

@@ -8,7 +8,7 @@ use borrow.Author.Tests.{lt-ltb, le-ltb, ltb-true, ltb-false, eqb-true, eqb-fals
 use lib.Arith.{comp_comp}
 use lib.Bits.{bit_and, and_mask}
 use lib.Dec.{T, eqb, ltb, leb, leb→le, le→leb}
-use lib.IntN.{ℤ, pos, negsuc, neg_ℤ, ◌+ℤ◌, ◌-ℤ◌, ◌*ℤ◌}
+use lib.IntN.{ℤ, pos, negsuc, neg_ℤ, ◌+ℤ◌, ◌*ℤ◌}
 use lib.Pow.{pow_pos, pow_mono, pow-add, shl_lt, shl-shr, shr_lt, split, high, low, mod-pow-add, mod-mod-pow}
 use lib.Signed.{mag, shr_z}
 use mir.Syntax.{Width, w32}
@@ -16,7 +16,7 @@ use mir.Val.{bool_byte, bits, to_z, of_z, SFits, hbits}
 use mir.ValLaws.{half_full}
 use mir.Facts.{to_z_pos, to_z-of_z, sfits_widen}
 use Rattle.std.specs.Int.{int_wrap}
-use Rattle.std.proofs.lemmas.Int.{SFits-int_wrap, int_wrap_fits, int_wrap-add_left, int_wrap-add_right, int_wrap-sub_right, int_wrap-mul_left, int_wrap-mul_right}
+use Rattle.std.proofs.lemmas.Int.{SFits-int_wrap, int_wrap_fits, int_wrap-add_left, int_wrap-add_right, int_wrap-mul_left, int_wrap-mul_right}
 use Rattle.word.specs.Int.{eq_ℤ, mod_ℤ, wrap}
 use Rattle.word.proofs.Mod.{mod_ℤ_lt, mod_mul_l}
 use Rattle.word.proofs.Names.{wrap_is}

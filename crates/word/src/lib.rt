@@ -5,7 +5,7 @@
 
 ghost use Rattle.std.specs.Prelude.{◌≡◌, ◌^◌, ◌<◌, pos, nat_abs, neg_ℤ, ◌+ℤ◌, ◌-ℤ◌, ◌*ℤ◌, ℤ, length};
 ghost use Rattle.std.specs.List.{AllZip};
-ghost use Rattle.word.specs.Int.{wrap16, wrap32, wrap64, floor_div, mod_ℤ, sat16, sat32};
+ghost use Rattle.word.specs.Int.{wrap16, wrap32, wrap64, floor_div, mod_ℤ, clamp, sat16, sat32};
 
 // The same number, in 64 bits: `i64::from` by a name that tells the width, by which proofs cite the call.
 pub fn wide(a: i32) -> i64
@@ -155,6 +155,20 @@ pub fn low_bit(x: i64) -> i64
     x & 1
 }
 
+// The nearest number from low to high, of any two bounds: the library's `clamp` asks that they are in their order.
+#[tactic(auto, unfolding(crate::specs::Int::clamp))]
+pub fn limit32(a: i32, low: i32, high: i32) -> i32
+    ensures { result ≡ clamp low high a }
+{
+    if a < low {
+        low
+    } else if a > high {
+        high
+    } else {
+        a
+    }
+}
+
 // The nearest number of 16 bits. Two functions, as each shift above.
 pub fn sat16(a: i32) -> i16
     ensures { result ≡ sat16 a }
@@ -175,8 +189,6 @@ pub fn map_into<A: Copy, B: Copy, F: Fn(A) -> B>(from: &[A], to: &mut [B], f: F)
     requires room { length to.old ≡ length from.now }
     ensures { AllZip (λ x y. F.post f x y) from.now to.new }
 {
-    // The slice's length, which the compiler now knows, makes the loop's test of a place needless.
-    let to = &mut to[..from.len()];
     for (i, x) in from.iter().enumerate() {
         to[i] = f(*x);
     }

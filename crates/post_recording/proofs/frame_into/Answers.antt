@@ -29,7 +29,7 @@ unfolding frame_judged
 returns-in_err-refuse_if c =
     let a = c.args in
     let t = at_err _ _ c.from_residual.ensures.1 in
-    let j = too_short c.refuse_if.ensures c.short_frame.ensures (number_refusal a.bytes.now a.number) c.in_err-refuse_if.was in
+    let j = too_short c.refuse_if.ensures c.short_with_pulses.ensures (number_refusal a.bytes.now a.number) c.in_err-refuse_if.was in
     (t ∙ sym j, stays _ _ t, stays _ _ t, stays _ _ t)
 
 pub returns-in_err-r : goal.returns-in_err-r
@@ -38,7 +38,7 @@ returns-in_err-r c =
     let a = c.args in
     let b = a.bytes.now in
     let t = at_err _ _ c.from_residual-in_err-r.ensures.1 in
-    let j = by_content c.refuse_if.ensures c.short_frame.ensures (number_refusal b a.number) c.in_ok-refuse_if.was
+    let j = by_content c.refuse_if.ensures c.short_with_pulses.ensures (number_refusal b a.number) c.in_ok-refuse_if.was
     ∙ not_read_either b a.number (not_read b (sym c.read.ensures ∙ c.in_err-r.was)) in
     (t ∙ sym j, stays _ _ t, stays _ _ t, stays _ _ t)
 
@@ -49,7 +49,7 @@ returns-in_err-refuse_if-2 c =
     let b = a.bytes.now in
     let e = is (goal.at.returns-in_err-refuse_if-2 c).In_ok-r in
     let t = at_err _ _ c.from_residual-in_err-refuse_if-2.ensures.1 in
-    let j = by_content c.refuse_if.ensures c.short_frame.ensures (number_refusal b a.number) c.in_ok-refuse_if.was
+    let j = by_content c.refuse_if.ensures c.short_with_pulses.ensures (number_refusal b a.number) c.in_ok-refuse_if.was
     ∙ sym (by_number b a.number c.refuse_if-2.ensures (read_is b c.in_ok-r.r e) (frames_count b c.in_ok-r.r e))
     ∙ c.in_err-refuse_if-2.was in
     (t ∙ sym j, stays _ _ t, stays _ _ t, stays _ _ t)
@@ -63,7 +63,7 @@ bounds-frames-number c =
     omega (arith, n.0, n.1, c.frames_in-frames.ensures.2)
 
 pub put_record-requires : goal.put_record-requires
-put_record-requires c = enough c.refuse_if.ensures c.short_frame.ensures c.in_ok-refuse_if.was
+put_record-requires c = enough c.refuse_if.ensures c.short_with_pulses.ensures c.in_ok-refuse_if.was
 
 pub returns : goal.returns
 unfolding frame_judged recorded_at
@@ -81,7 +81,7 @@ returns c =
     let x = ap recorded_in c.record-record.ensures ∙ same ∙ frame_is b a.number ks f.ensures.1 (omega (arith, n.0, n.1, f.ensures.2)) in
     let khz = rate-back b r e in
     let nb = count-back b r e in
-    let j = by_content c.refuse_if.ensures c.short_frame.ensures (number_refusal b a.number) c.in_ok-refuse_if.was
+    let j = by_content c.refuse_if.ensures c.short_with_pulses.ensures (number_refusal b a.number) c.in_ok-refuse_if.was
     ∙ sym (by_number b a.number c.refuse_if-2.ensures (read_is b r e) (frames_count b r e))
     ∙ c.in_ok-refuse_if-2.was in (
       sym j,

@@ -1,6 +1,0 @@
-use Rattle.std.proofs.Common.{◌≡◌, ℕ, ◌+◌, ◌*◌, ◌<◌, length, get_or}
-use Rattle.le.proofs.words_at.Given as goal
-
-abbrev pub invariant-loop-i : goal.invariant-loop-i
-invariant-loop-i g l =
-    record { size : length l.x-items ≡ g.row.N; read : (k : ℕ) (d : g.row.T.Denot) → k < l.i → get_or l.x-items k d ≡ g.T.Word.word_at l.b (l.at + g.T.Word.SIZE * k) }
