@@ -4,10 +4,10 @@
  * functions of filters (target/staticlib/libpost_filters.a), `tools/staticlib post_load` those of the
  * load (target/staticlib/libpost_load.a) and `tools/staticlib post_recording` those of recordings
  * (target/staticlib/libpost_recording.a); any of the archives may be linked, alone or with others. They
- * are for x86-64 Linux alone. They call memcpy, memmove and memset and nothing else, and have no
- * variables of their own: calls on different states may run at the same time. A call takes up to
- * 22,768 bytes of stack (docs/BENCHMARKS.md), post_recording_play up to 69,696 and
- * post_single_loss up to 85,984.
+ * are for x86-64 Linux alone. They call memcpy and memset and nothing else, and have no variables
+ * of their own: calls on different states may run at the same time. A call takes up to
+ * 22,944 bytes of stack (docs/BENCHMARKS.md), post_recording_play up to 69,536 and
+ * post_single_loss up to 85,824.
  *
  * A slice is a pointer and the count of its elements. The slices of one call may not overlap, not
  * even pulses and output: the proofs rest on it.

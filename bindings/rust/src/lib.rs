@@ -1,8 +1,8 @@
 //! The yard post's SILK back end: parameters of a frame in, samples out.
 //!
 //! [`Post`] owns a decoder's state. A frame is played by [`Post::received`] or [`Post::lost`]; one that the
-//! back end turns down leaves the state, the description and the output as they were. A call takes up to 22,768
-//! bytes of stack, [`Recording::play`] up to 69,696 and [`Recording::single_loss`] up to 85,984. The library, which `tools/staticlib post` builds or
+//! back end turns down leaves the state, the description and the output as they were. A call takes up to 22,944
+//! bytes of stack, [`Recording::play`] up to 69,536 and [`Recording::single_loss`] up to 85,824. The library, which `tools/staticlib post` builds or
 //! POST_LIBRARY names, is for x86-64 Linux alone. Features, which are on unless they are turned off, have archives of their own: `filters`, which
 //! `tools/staticlib post_filters` builds, has [`stability`], [`sentence`], [`filter`], [`cosine`] and [`is_rising`]; `recording`, by
 //! `tools/staticlib post_recording`, has [`Recording`] and [`Writer`]; `load`, by `tools/staticlib post_load`, has [`Load`] with its trial,

@@ -1,13 +1,13 @@
 -- The excitation moved along by a subframe.
 use Prim.Native.Nat.{ℕ, zero, suc, ◌+◌, ◌-◌, ◌*◌, ◌<◌, ◌≤◌}
 use mathlib.Core.Path.{◌≡◌, refl, sym, ap, ◌∙◌}
-use mathlib.Core.List.{List, ◌++◌, append_assoc}
+use mathlib.Core.List.{List, ◌++◌}
 use native.Mathlib.Omega.{arith}
 use native.Mathlib.Nat.{zero-add, suc-mul, mul-le-mul, mul-le-mul_right}
 use lib.ListN.{length, take, drop, length-drop}
-use lib.Seq.{drop_at, length-take-le, get_or-take}
+use lib.Seq.{take-append_seam, drop-append-add, drop-drop, length-take-le, get_or-take}
 use lib.IntN.{ℤ, pos}
-use Rattle.std.specs.List.{copy_within, fold}
+use Rattle.std.specs.List.{fold}
 use Rattle.sigproc.specs.Place.{put_at}
 use Rattle.nlsf.specs.Fit.{largest_by}
 use Rattle.nlsf.proofs.Rounds.{largest_place}
@@ -23,23 +23,24 @@ room k n l h hn hl =
     let c : suc (n - 1) * l ≡ n * l = ap (λ (m : ℕ). m * l) e in
     (omega (arith, suc-mul k l), b, omega (arith, suc-mul (n - 1) l))
 
--- the held ones moved along by l, and a list of l stored in front of them
+-- one list stored at the front, another behind it
+front : (z a b : List ℤ) → put_at (put_at z 0 a) (length a) b ≡ a ++ b ++ drop (length a + length b) z
+unfolding put_at
+front z a b =
+    let d : List ℤ = drop (length a) z in
+    rw (zero-add, take-append_seam a d, drop-append-add a d (length b), drop-drop (length b) (length a) z)
+
 pub moved : (held exc : List ℤ) (l n k : ℕ) → length held ≡ 320 → length exc ≡ 320 → k < n → n ≤ 4 → l ≤ 80
-    → put_at (copy_within held 0 ((n - 1) * l) l) 0 (take l (drop (k * l) exc)) ≡ moved_in l n exc held k
-unfolding put_at moved_in
+    → put_at (put_at held 0 (take l (drop (k * l) exc))) l (take ((n - 1) * l) held) ≡ moved_in l n exc held k
+unfolding moved_in
 moved held exc l n k hh he hk hn hl =
     let r = room k n l hk hn hl in
-    let m = (n - 1) * l in
     let a = take l (drop (k * l) exc) in
+    let b = take ((n - 1) * l) held in
     let la : length a ≡ l = length-take-le l (drop (k * l) exc) (rw (length-drop) (omega arith)) in
-    let lh : length (take l held) ≡ l = length-take-le l held (omega arith) in
-    let b = take m held in
-    let rest = drop (l + m) held in
-    let all : m - 0 ≡ m = omega arith in
-    let z : copy_within held 0 m l ≡ (take l held ++ b) ++ rest = ap (λ (j : ℕ). (take l held ++ take j held) ++ drop (l + j) held) all in
-    let d : drop l (copy_within held 0 m l) ≡ b ++ rest = ap (drop l) (z ∙ append_assoc (take l held) b rest) ∙ drop_at (take l held) (b ++ rest) l lh in
-    let e : a ++ drop (0 + length a) (copy_within held 0 m l) ≡ a ++ (b ++ rest) = ap (λ (j : ℕ). a ++ drop j (copy_within held 0 m l)) (zero-add (length a) ∙ la) ∙ ap (λ (x : List ℤ). a ++ x) d in
-    e ∙ sym (append_assoc a b rest) ∙ ap (λ (j : ℕ). (a ++ b) ++ drop j held) r.2
+    let lb : length b ≡ (n - 1) * l = length-take-le ((n - 1) * l) held (omega arith) in
+    let e : length a + length b ≡ n * l = omega arith in
+    ap (λ (i : ℕ). put_at (put_at held 0 a) i b) (sym la) ∙ front held a b ∙ ap (λ (i : ℕ). a ++ b ++ drop i held) e
 
 -- the loudest of n gains is one of them
 pub place_lt : (gains : List ℤ) (n : ℕ) → 0 < n → (loudest gains n).place < n

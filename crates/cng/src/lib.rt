@@ -108,8 +108,10 @@ fn moved_in(held: &mut [i32; 320], exc: &[i32; 320], l: usize, n: usize, k: usiz
     let a = k * l;
     let b = a + l;
     let m = (n - 1) * l;
-    held.copy_within(..m, l);
+    // Not by `copy_within`, which would ask of a program that links the archive for a memmove.
+    let before = *held;
     copy_at(held, 0, &exc[a..b]);
+    copy_at(held, l, &before[..m]);
 }
 
 // The background followed.

@@ -170,13 +170,15 @@ fn load(signal: &mut [i32], exc: &[i32], adj: i32)
     copy_at(signal, 16, exc);
 }
 
-// The last 16 samples come to the front.
+// The last 16 samples come to the front. Not by `copy_within`, which would ask of a program that links the archive for a memmove.
 fn keep(signal: &mut [i32])
     requires { 16 ≤ length signal.old }
     ensures { take 16 signal.new ≡ drop (length signal.old - 16) signal.old }
 {
     let n = signal.len() - 16;
-    signal.copy_within(n.., 0);
+    let last: &[i32; 16] = signal[n..n + 16].try_into().unwrap();
+    let memory = *last;
+    copy_at(signal, 0, &memory);
 }
 
 // The samples that the memory and the residual in signal make; their last 16 are the new memory.

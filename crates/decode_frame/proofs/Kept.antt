@@ -130,10 +130,10 @@ module _ (p : Shape) (q : Shaped p.rate p.subframes) (s : SilkDecoderState) (sha
         }
 
     held-bounds : PlcBounds p.rate (plc_updated p (is_voiced f.signal) decoded.control (get_or rows 1 []) (plc_ready p history.s_plc))
-    held-bounds = updated p history.s_plc q history-plc f decoded.control (get_or rows 1 []) decoded-fit
+    held-bounds = let d = decoded-fit in updated p history.s_plc q history-plc (is_voiced f.signal) decoded.control (get_or rows 1 []) d.gains d.scale d.lags d.taps
 
     held-typed : TypedPlc (plc_updated p (is_voiced f.signal) decoded.control (get_or rows 1 []) (plc_ready p history.s_plc))
-    held-typed = updated_typed p history.s_plc q history-plc history-typed.s_plc f decoded.control (get_or rows 1 []) tr.second decoded-fit
+    held-typed = let d = decoded-fit in updated_typed p history.s_plc q history-plc history-typed.s_plc (is_voiced f.signal) decoded.control (get_or rows 1 []) tr.second d.gains d.scale d.lags d.taps
 
     abbrev after : SilkDecoderState
     after = resumed (plc_update p history f.signal decoded.control rows) (signal_number f.signal)

@@ -1,11 +1,11 @@
 -- The reset and the update after a received frame keep concealment's state in the ranges of its types.
-use Prim.Native.Nat.{ℕ, ◌*◌, ◌^◌, ◌≤◌}
+use Prim.Native.Nat.{ℕ, ◌*◌, ◌^◌, ◌<◌, ◌≤◌}
 use mathlib.Core.Path.{◌≡◌, refl}
 use mathlib.Core.Bool.{Bool, true, false, cond}
 use mathlib.Core.List.{List, [], ◌∷◌}
 use native.Mathlib.Omega.{arith}
 use lib.IntN.{ℤ, pos}
-use lib.ListN.{take, replicate}
+use lib.ListN.{get_or, take, replicate}
 use mir.Syntax.{w16, w32}
 use mir.Val.{SFits}
 use Rattle.word.specs.Int.{eq_ℤ}
@@ -18,13 +18,11 @@ use Rattle.shape.proofs.Shapes.{Shaped}
 use Rattle.decoder.specs.Typed.{Words, TypedPlc}
 use Rattle.decoder.specs.declared.SilkPLCState.{SilkPLCState}
 use Rattle.decoder.specs.declared.SilkDecoderControl.{SilkDecoderControl}
-use Rattle.decoder.specs.declared.Params.{Params}
-use Rattle.decoder.specs.Signals.{is_voiced}
 use Rattle.decoder.proofs.Between.{Between, AllBetween}
 use Rattle.decoder.proofs.Bounds.{TapBounds, SubframeBounds, PlcHeldBounds, PlcBounds}
 use Rattle.decoder.proofs.Types.{take_words}
 use Rattle.decoder.proofs.Built.{words, words-front, between_32}
-use Rattle.judge.proofs.Bounds.{ParamsFit}
+use Rattle.judge.specs.Taps.{tap_sum}
 use Rattle.plc.specs.Hold.{hold, plc_reset, plc_ready}
 use Rattle.plc.specs.Update.{middle, plc_updated}
 use Rattle.plc.proofs.Tap.{Middle}
@@ -113,12 +111,16 @@ module _ (p : Shape) (h : SilkPLCState) (q : Shaped p.rate p.subframes) (b : Plc
   ready = let r = readied p h q b in record { bounds = r.0; at = r.1; typed = ready_typed; rate = r.2 }
 
   -- a received frame whose numbers are in their ranges
-  module _ (f : Params) (c : SilkDecoderControl) (row : List ℤ) (tr : Words w16 16 row) (fit : ParamsFit p f c) where
-    pub updated_typed : TypedPlc (plc_updated p (is_voiced f.signal) c row (plc_ready p h))
+  module _ (voiced : Bool) (c : SilkDecoderControl) (row : List ℤ) (tr : Words w16 16 row)
+      (fg : (k : ℕ) → k < p.subframes → Between 81920 1686110208 (get_or c.gains_q16 k (pos 0)))
+      (fs : Between 0 16384 c.ltp_scale_q14)
+      (fl : voiced ≡ true → (k : ℕ) → k < p.subframes → Between (2 * p.rate) (18 * p.rate) (get_or c.pitch_l k (pos 0)))
+      (ft : voiced ≡ true → (k : ℕ) → k < p.subframes → SFits w16 (tap_sum c.ltp_coef_q14 k)) where
+    pub updated_typed : TypedPlc (plc_updated p voiced c row (plc_ready p h))
     unfolding plc_updated
     updated_typed =
         let k = ready in
-        let u = updated p h q b f c row fit in
+        let u = updated p h q b voiced c row fg fs fl ft in
         let a = u.held k.rate in
         let gain = a.prev_gain_q16 in
         hold_typed k.typed (between_32 a.pitch_l_q8 (omega (arith, q.rate_high))) (middle-words _ (tap_fits _ u.ltp_coef_q14.low u.ltp_coef_q14.high))

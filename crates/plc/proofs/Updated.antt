@@ -14,14 +14,11 @@ use Rattle.word.proofs.Rows.{both}
 use Rattle.word.proofs.Words.{wrap_id}
 use Rattle.shape.specs.Shape.{Shape}
 use Rattle.shape.proofs.Shapes.{Shaped}
-use Rattle.decoder.specs.Signals.{is_voiced}
 use Rattle.decoder.proofs.Between.{Between, AllBetween}
 use Rattle.decoder.proofs.Bounds.{whole, PlcHeldBounds, PlcBounds}
 use Rattle.decoder.specs.declared.SilkPLCState.{SilkPLCState}
 use Rattle.decoder.specs.declared.SilkDecoderControl.{SilkDecoderControl}
-use Rattle.decoder.specs.declared.Params.{Params}
 use Rattle.judge.specs.Taps.{tap_sum}
-use Rattle.judge.proofs.Bounds.{ParamsFit}
 use Rattle.plc.specs.Hold.{plc_reset, plc_ready}
 use Rattle.plc.specs.Update.{stronger, strongest, pulse_of, plc_updated}
 use Rattle.plc.specs.declared.update.Pulse.{Pulse}
@@ -103,9 +100,13 @@ module _ (p : Shape) (h : SilkPLCState) (s : Shaped p.rate p.subframes) (b : Plc
           }
 
   -- a received frame whose numbers are in their ranges
-  module _ (f : Params) (c : SilkDecoderControl) (row : List ℤ) (fit : ParamsFit p f c) where
+  module _ (voiced : Bool) (c : SilkDecoderControl) (row : List ℤ)
+      (fg : (k : ℕ) → k < p.subframes → Between 81920 1686110208 (get_or c.gains_q16 k (pos 0)))
+      (fs : Between 0 16384 c.ltp_scale_q14)
+      (fl : voiced ≡ true → (k : ℕ) → k < p.subframes → Between (2 * p.rate) (18 * p.rate) (get_or c.pitch_l k (pos 0)))
+      (ft : voiced ≡ true → (k : ℕ) → k < p.subframes → SFits w16 (tap_sum c.ltp_coef_q14 k)) where
     gain : (k : ℕ) → k < p.subframes → Between 65536 1686110208 (get_or c.gains_q16 k (pos 0))
-    gain k h = let g = fit.gains k h in let l = g.low in record { is = g.is; low = omega arith; high = g.high }
+    gain k h = let g = fg k h in let l = g.low in record { is = g.is; low = omega arith; high = g.high }
 
     last-gains : AllBetween 65536 1686110208 (get_or c.gains_q16 (p.subframes - 2) (pos 0) ∷ get_or c.gains_q16 (p.subframes - 1) (pos 0) ∷ []) 2
     last-gains zero k = gain (p.subframes - 2) (omega (arith, s.count_low))
@@ -114,14 +115,14 @@ module _ (p : Shape) (h : SilkPLCState) (s : Shaped p.rate p.subframes) (b : Plc
 
     scale : Between 0 16384 (wrap16 c.ltp_scale_q14)
     scale =
-        let u = fit.scale.high in
-        rw (wrap_id {w = w16} {z = c.ltp_scale_q14} (rw fit.scale.is (record { sfits = omega arith }))) fit.scale
+        let u = fs.high in
+        rw (wrap_id {w = w16} {z = c.ltp_scale_q14} (rw fs.is (record { sfits = omega arith }))) fs
 
-    pub updated : PlcBounds p.rate (plc_updated p (is_voiced f.signal) c row (plc_ready p h))
+    pub updated : PlcBounds p.rate (plc_updated p voiced c row (plc_ready p h))
     unfolding plc_updated
     updated =
         let g = readied in
-        let q = pulsed p c (plc_ready p h).pitch_l_q8 s.rate_high (omega (arith, s.count_low)) g.1.pitch_l_q8 (is_voiced f.signal) fit.lags fit.taps in
+        let q = pulsed p c (plc_ready p h).pitch_l_q8 s.rate_high (omega (arith, s.count_low)) g.1.pitch_l_q8 voiced fl ft in
         record {
           last_frame_lost = g.0.last_frame_lost;
           ltp_coef_q14 = record { first = refl; second = refl; low = q.tap_fits.low; high = q.tap_fits.high; fourth = refl; fifth = refl };

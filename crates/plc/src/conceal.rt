@@ -409,10 +409,10 @@ fn held_after(h: SilkPLCState, k: VoiceState, a: [i16; 16]) -> SilkPLCState
 
 // What a lost frame leaves beside its samples.
 #[derive(Clone, Copy)]
-struct Concealed {
-    plc: SilkPLCState,
-    memory: [i32; 16],
-    lag: i32,
+pub struct Concealed {
+    pub plc: SilkPLCState,
+    pub memory: [i32; 16],
+    pub lag: i32,
 }
 
 // A lost frame of a state; h is what concealment holds, ready for the frame's rate.

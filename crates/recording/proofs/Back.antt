@@ -24,6 +24,12 @@ record_at b r f x k h e =
     let w : x ≡ get_or r k 0 = e ∙ get_or_default r k x 0 h in
     omega (arith, w, f k)
 
+-- one byte more
+pub all_and : (ys : List ℕ) (x : ℕ) → list_all (λ y. eqb y 0) (ys ++ x ∷ []) ≡ (list_all (λ y. eqb y 0) ys && eqb x 0)
+all_and ys x =
+    let p : ℕ → Bool = λ y. eqb y 0 in
+    list_all-append p ys (x ∷ []) ∙ (λ i. list_all p ys && and-true (p x) i)
+
 -- n bytes from a place on are zeros, each by itself
 pub zeros_each : (b : List ℕ) (at n : ℕ) → at + n ≤ length b → list_all (λ x. eqb x 0) (take n (drop at b)) ≡ zeros b at n
 unfolding zeros

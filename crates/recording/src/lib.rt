@@ -64,12 +64,12 @@ impl Recording {
     }
 }
 
-// The library's `all` under the definition's name: three tests call it.
+// A fold, of which the compiler makes a test of many bytes at a time; the library's `all`, which ends at the first other byte, tests one after the other.
 fn zeros(bytes: &[u8], at: usize, n: usize) -> bool
     requires { at + n ≤ length bytes.now }
     ensures { result ≡ zeros bytes.now at n }
 {
-    bytes[at..at + n].iter().all(|b| *b == 0)
+    bytes[at..at + n].iter().fold(true, |ok, b| ok & (*b == 0))
 }
 
 #[tactic(auto, unfolding(crate::specs::Frames::is_head))]

@@ -1,7 +1,9 @@
 // Runs the judges over the cases of standard input: each end of each range of document 01 from inside and from outside.
 #![tactic(auto)]
 
-use decoder::{Frame, Params, Settings, Signal, SilkDecoderControl, SilkDecoderState, set_up_with};
+use decoder::{
+    Frame, Params, Settings, Signal, SilkDecoderControl, SilkDecoderState, reshape, set_up_with,
+};
 use edition::NEWER;
 use input::read_full;
 use line::{Line, line_of};
@@ -61,9 +63,16 @@ fn set_up(khz: i32, nb_subfr: i32) -> Result<SilkDecoderState, Refusal> {
     set_up_with(khz, nb_subfr, settings)
 }
 
-// A set-up state whose concealment and noise have run at its rate.
+// A set-up state whose concealment and noise have run at its rate; of a shape that set-up refuses, one that has no shape.
 fn held(khz: i32, nb_subfr: i32) -> Result<SilkDecoderState, Refusal> {
-    let mut s = set_up(khz, nb_subfr)?;
+    let mut s = match set_up(khz, nb_subfr) {
+        Ok(s) => s,
+        Err(_) => {
+            let mut s = set_up(16, 4)?;
+            reshape(&mut s, 0, 0);
+            s
+        }
+    };
     s.s_plc.fs_khz = khz;
     s.s_plc.pitch_l_q8 = khz.wrapping_mul(512);
     s.s_plc.prev_gain_q16[0] = 65536;

@@ -10,7 +10,7 @@ use lib.Dec.{ltb, eqb}
 use lib.IntN.{ℤ, pos, negsuc}
 use lib.ListN.{length, get_or, drop, replicate}
 use Rattle.std.specs.Prelude.{Ok, Err}
-use Rattle.stability.specs.Stability.{Stability}
+use Rattle.stability.specs.Stability.{Stability, answer_number, answer_value}
 use Rattle.stability.specs.declared.Unstable.TheVariants.{Sum, Coefficient, Gain, Overflow}
 use Rattle.sentence.specs.Sentence.{digits, decimal, signed, words, number, sentence, filled, sentence_of}
 use Rattle.sentence.specs.Apart.{NoTwo}
@@ -105,3 +105,12 @@ no_two = (
   (λ s t e. sym (plain_back s) ∙ ap read e ∙ plain_back t),
   (λ s t e. sym (read_back s (64 - length (sentence s))) ∙ ap read e ∙ read_back t (64 - length (sentence t))),
 )
+
+-- the number that a sentence tells is the answer's value; the sum's tells none
+pub number_is : (s : Stability) → (answer_number s ≡ 1 → ⊥) → number s ≡ signed (answer_value s)
+unfolding answer_number answer_value number signed
+number_is (Ok g) n = refl
+number_is (Err Sum) n = absurd (n refl)
+number_is (Err (Coefficient k)) n = refl
+number_is (Err (Gain k)) n = refl
+number_is (Err (Overflow k)) n = refl

@@ -20,12 +20,14 @@ use shape::Order;
 use word::{add32, low16, map_into, mul16, sat16, shl32, shr32, sub32, wide16};
 
 // All of src, stored from place at on. le's `put_bytes` does this for bytes: each crate is without the other, and cites a definition of its own.
-#[tactic(auto, unfolding(crate::specs::Place::put_at))]
+// By place: `copy_from_slice` asks a program that links the archive for memmove, since the compiler can't tell there that the two lie apart.
 pub fn copy_at<T: Copy>(dst: &mut [T], at: usize, src: &[T])
     requires { at + length src.now ≤ length dst.old }
     ensures { dst.new ≡ put_at dst.old at src.now }
 {
-    dst[at..at + src.len()].copy_from_slice(src);
+    for (i, x) in src.iter().enumerate() {
+        dst[at + i] = *x;
+    }
 }
 
 // The first d numbers new, and the others as they were held. Not an Order, which would serve 10 and 16 alone: callers have a number.

@@ -7,5 +7,5 @@ use Rattle.cng.proofs.moved_in.Goals as goal
 pub returns : goal.returns
 returns c =
     let a = c.args in
-    rw (c.copy_at.ensures, c.copy_within.ensures.after, add-sub_cancel_left (a.k * a.l) a.l)
+    rw (c.copy_at-2.ensures, c.copy_at.ensures, add-sub_cancel_left (a.k * a.l) a.l)
     (moved a.held.now a.exc.now a.l a.n a.k (search rules) (search rules) c.requires.2 c.requires.1 c.requires.0)

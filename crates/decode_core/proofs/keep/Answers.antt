@@ -1,14 +1,17 @@
-use Prim.Native.Nat.{◌-◌}
+use Prim.Native.Nat.{◌+◌, ◌-◌}
 use mathlib.Core.Path.{◌≡◌, ◌∙◌}
 use native.Mathlib.Omega.{arith}
-use lib.ListN.{length, drop, length-drop}
+use borrow.Author.Rules.{rules}
+use lib.ListN.{length, take, drop, length-drop}
 use lib.Seq.{take_all, take_at}
+use Rattle.sigproc.specs.Place.{put_at}
 use Rattle.decode_core.proofs.keep.Goals as goal
 
 pub returns : goal.returns
+unfolding put_at
 returns c =
     let s = c.args.signal.now in
-    let d : length (drop (length s - 16) s) ≡ 16 = length-drop (length s - 16) s ∙ omega arith in
-    let h : length s - (length s - 16) ≡ 16 = omega arith in
-    let t = take_all 16 (drop (length s - 16) s) (omega arith) in
-    rw (c.copy_within.ensures.after, h, t) (take_at (drop (length s - 16) s) (drop 16 s) 16 d)
+    let last = drop (length s - 16) s in
+    let d : length last ≡ 16 = length-drop (length s - 16) s ∙ omega arith in
+    let m : c.unwrap-last.result.now ≡ take 16 last = search rules in
+    rw (c.copy_at.ensures, m, take_all 16 last (omega arith)) (take_at last (drop (0 + length last) s) 16 d)
